@@ -1,0 +1,44 @@
+-- The worked examples hold by computation. An example over any payload of a given length computes once that length is put in its place.
+-- Assumes nothing.
+use mathlib.Core.Path.{refl}
+use lib.ListN.{length}
+use borrow.Author.Tests.{le-leb}
+use Rattle.protocol.specs.Bytes.{fromLe, toLe, overlay}
+use Rattle.protocol.specs.Refusals.{first}
+use Rattle.protocol.specs.Header.{magicOf, versionOf, typeOf, flagsOf, instanceOf, epochOf, sequenceOf, lengthOf, headerBytes}
+use Rattle.protocol.specs.Outer.{windowOk, creditOk, valueOf, write}
+use Rattle.record.specs.Types.{typeAt, lengthOk}
+use Rattle.record.specs.Record.{allZero, payloadChecks, headerChecks, recordWith, encodeRecord}
+use Rattle.parser.specs.Push.{countsOk, errorOk, soundParser, finish, pushBody, headWith, pushHead, push, neededOf, counted}
+use Rattle.session.specs.Checks.{same, identityOk, holds}
+use Rattle.guest.specs.State.{soundGuest}
+use Rattle.guest.specs.Receive.{acceptReset, acceptData, accept, afterPush, receive}
+use Rattle.guest.specs.Calls.{writes, attach, acknowledge, send, credit}
+use Rattle.claims.specs.Examples.{MarkedExamples}
+
+pub marked : MarkedExamples
+unfolding fromLe toLe overlay first magicOf versionOf typeOf flagsOf instanceOf epochOf sequenceOf lengthOf headerBytes windowOk creditOk valueOf write
+    typeAt lengthOk allZero payloadChecks headerChecks recordWith encodeRecord countsOk errorOk soundParser finish pushBody headWith pushHead push neededOf counted
+    same identityOk holds soundGuest acceptReset acceptData accept afterPush receive writes attach acknowledge send credit
+marked =
+    record {
+      m1 = refl;
+      m2 = (record { encoder = refl; parser = refl; whole = refl; guest = refl }, record { encoder = refl; parser = refl; whole = refl; guest = refl });
+      m3 = (refl, (record { encoder = refl; parser = refl; whole = refl; guest = refl }, record { encoder = refl; parser = refl; whole = refl; guest = refl }));
+      m4 = (
+        record { encoder = λ payload o e l. rw e; header = refl; parser = λ payload e. rw e; whole = λ payload e. rw e },
+        (
+          record { encoder = λ payload o e l. rw (e, le-leb 45 (length o) l); header = refl; parser = λ payload e. rw (e, e); whole = λ payload e. rw (e, e) },
+          (
+            record { encoder = λ payload o e l. rw (e, le-leb 65580 (length o) l); header = refl; parser = λ payload e. rw (e, e); whole = λ payload e. rw (e, e) },
+            record { encoder = λ payload o e l. rw e; header = refl; parser = λ payload e. rw e; whole = λ payload e. rw e },
+          ),
+        ),
+      );
+      m5 = (refl, (refl, (refl, refl)));
+      m6 = λ o at. (refl, refl);
+      m7 = (refl, (record { refusal = refl; event = refl; reported = refl; held = refl; state = refl }, record { refusal = refl; event = refl; reported = refl; held = refl; state = refl }));
+      m8 = (refl, (refl, (refl, refl)));
+      m9 = (record { refusal = refl; event = refl; payload = refl; outstanding = refl }, refl);
+      m10 = (record { refusal = refl; event = refl; reported = refl; held = refl; state = refl }, (refl, refl));
+    }

@@ -1,0 +1,1 @@
+// No code: claims over the rules.

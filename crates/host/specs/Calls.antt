@@ -1,0 +1,94 @@
+-- The rules of a host's other calls (01, "Host" and "What stops each operation").
+use Prim.Native.Nat.{ℕ, _+_, min}
+use mathlib.Core.Bool.{Bool, true, false, not, _&&_}
+use mathlib.Core.List.{List, [], _∷_, _++_}
+use lib.ListN.{length, take, replicate}
+use lib.Dec.{eqb, leb}
+use Rattle.protocol.specs.Bytes.{overlay}
+use Rattle.protocol.specs.Refusals.{pick, refusal, none, first, passes}
+use Rattle.protocol.specs.Outer.{maxPayload, roomRow}
+use Rattle.protocol.specs.declared.refusal.Refusal.{Refusal}
+use Rattle.record.specs.Record.{recordBytes}
+use Rattle.parser.specs.Push.{neededOf, bufferedOf}
+use Rattle.parser.specs.declared.parser.Count.{Count}
+use Rattle.session.specs.Checks.{noIdentity, shown, nextRow}
+use Rattle.session.specs.Writes.{identityBytes}
+use Rattle.session.specs.declared.session.OptionalIdentity.{OptionalIdentity}
+use Rattle.host.specs.State.{isDetached, isAttached, isBegun, soundHost, withState, sentHost}
+use Rattle.host.specs.declared.host.HostState.{HostState}
+use Rattle.host.specs.declared.host.HostState.the-variants as State
+use Rattle.host.specs.declared.host.HostSession.{HostSession}
+use Rattle.host.specs.declared.host.Sent.{Sent}
+use Rattle.host.specs.declared.host.Closed.{Closed}
+use Rattle.host.specs.declared.host.StateAnswer.{StateAnswer}
+use Rattle.host.specs.declared.host.IdentityAnswer.{IdentityAnswer}
+
+-- 23 unsound
+abbrev pub soundRow : HostSession → (Bool × Refusal)
+soundRow h = (soundHost h, refusal 23 0 0 0)
+
+-- ---- calls that write
+-- what a call that writes answers, with the output as it leaves it
+pub record Outcome : Type 0 where
+  pub sent : Sent
+  pub output : List ℕ
+
+abbrev pub outcome : Sent → List ℕ → Outcome
+outcome r o = record { sent = r; output = o }
+
+-- where nothing is refused the record's bytes stand at the position; else nothing changes
+unfoldable pub writes : Refusal → HostSession → HostSession → ℕ → List ℕ → List ℕ → ℕ → Outcome
+writes r h after count bytes o at =
+    pick (passes r)
+    (outcome (record { refusal = none; count = count; next = at + length bytes; session = after }) (overlay o at bytes))
+    (outcome (record { refusal = r; count = 0; next = 0; session = h }) o)
+
+-- attach: 20 not Detached; 22. It writes the 32 capability bytes
+abbrev pub attachRows : HostSession → List ℕ → ℕ → List (Bool × Refusal)
+attachRows h o at = soundRow h ∷ (isDetached (h .state), refusal 20 0 0 0) ∷ roomRow o at 76 ∷ []
+
+unfoldable pub attach : HostSession → List ℕ → List ℕ → ℕ → Outcome
+attach h capability o at =
+    writes (first (attachRows h o at)) h (withState h State.Attaching (h .parser)) 0 (recordBytes 2 (replicate 16 0) 0 0 capability) o at
+
+-- send: 20 not Attached; 16 (a 5); 5 for empty data; 22. It takes at most the first 65,536 bytes
+abbrev pub sendCount : List ℕ → ℕ
+sendCount bytes = min (length bytes) maxPayload
+
+abbrev pub sendRows : HostSession → List ℕ → List ℕ → ℕ → List (Bool × Refusal)
+sendRows h bytes o at =
+    soundRow h ∷
+    (isAttached (h .state), refusal 20 0 0 0) ∷
+    nextRow 5 (h .«send_sequence» .0) ∷
+    (leb 1 (length bytes), refusal 5 5 0 0) ∷
+    roomRow o at (44 + sendCount bytes) ∷
+    []
+
+unfoldable pub send : HostSession → List ℕ → List ℕ → ℕ → Outcome
+send h bytes o at =
+    writes (first (sendRows h bytes o at)) h (sentHost h) (sendCount bytes)
+    (identityBytes 5 (h .identity .identity) (h .«send_sequence» .0) (take (sendCount bytes) bytes)) o at
+
+-- ---- disconnect
+-- it acts in the first three states: 19 bytes buffered (a count) leaves Failed, or it leads to Closed; elsewhere it succeeds and does nothing
+unfoldable pub disconnect : HostSession → Closed
+disconnect h =
+    pick (soundHost h)
+    (pick (isBegun (h .state))
+    (pick (eqb (bufferedOf (h .parser)) 0)
+    (record { refusal = none; session = withState h State.Closed (h .parser) })
+    (record { refusal = refusal 19 (bufferedOf (h .parser)) 0 0; session = withState h State.Failed (h .parser) }))
+    (record { refusal = none; session = h }))
+    (record { refusal = refusal 23 0 0 0; session = h })
+
+-- ---- asks: 23, then the value; they change nothing
+unfoldable pub stateOf : HostSession → StateAnswer
+stateOf h = pick (soundHost h) (record { refusal = none; state = h .state }) (record { refusal = refusal 23 0 0 0; state = State.Detached })
+
+unfoldable pub identityOf : HostSession → IdentityAnswer
+identityOf h =
+    pick (soundHost h) (record { refusal = none; identity = shown (h .identity) })
+    (record { refusal = refusal 23 0 0 0; identity = record { present = false; identity = noIdentity } })
+
+unfoldable pub neededBy : HostSession → Count
+neededBy h = pick (soundHost h) (record { refusal = none; count = neededOf (h .parser) }) (record { refusal = refusal 23 0 0 0; count = 0 })

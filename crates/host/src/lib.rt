@@ -1,0 +1,2 @@
+// The host's end of an NVXS session (nvxs/host.rs).
+pub mod host;

@@ -1,0 +1,19 @@
+// Worked byte strings of the plain layer, a line for each call: what was called, and what came.
+mod headers;
+mod payloads;
+mod print;
+mod records;
+
+fn main() {
+    records::reset();
+    headers::places();
+    headers::types();
+    records::lengths();
+    records::positions();
+    records::limits();
+    headers::wrong();
+    headers::lengths();
+    payloads::windows();
+    payloads::credits();
+    payloads::lengths();
+}

@@ -1,0 +1,44 @@
+// Text, numbers and bytes on standard output.
+ghost use Prim.Native.Nat.{_<_};
+
+pub fn text(bytes: &[u8]) {
+    io::write_all(1, bytes);
+}
+
+pub fn number(n: u64) {
+    io::print_decimal(1, n);
+}
+
+// A label and the number after it.
+pub fn labelled(label: &[u8], n: u64) {
+    text(label);
+    number(n);
+}
+
+// Bytes in upper-case hexadecimal.
+pub fn hex(bytes: &[u8]) {
+    let mut i: usize = 0;
+    while i < bytes.len() {
+        hex_byte(bytes[i]);
+        i += 1;
+    }
+}
+
+fn hex_byte(byte: u8) {
+    let pair = [digit(byte / 16), digit(byte % 16)];
+    text(&pair);
+}
+
+fn digit(n: u8) -> u8
+    requires { ⌜ n < 16 ⌝ }
+{
+    if n < 10 { b'0' + n } else { b'A' + (n - 10) }
+}
+
+pub fn refusal(number: u8) {
+    labelled(b"refusal ", number as u64);
+}
+
+pub fn end_line() {
+    text(b"\n");
+}

@@ -1,0 +1,4 @@
+pub mod Bytes
+pub mod Refusals
+pub mod Header
+pub mod Outer

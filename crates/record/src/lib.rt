@@ -1,0 +1,3 @@
+// Validated records: their types, checks and encoding (the first half of nvxs/record.rs).
+pub mod record;
+pub mod types;

@@ -1,0 +1,3 @@
+// What the two ends of a session share (nvxs/mod.rs): identities, the checks on sequence and
+// identity, and the encoders of the next record.
+pub mod session;

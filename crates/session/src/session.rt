@@ -1,0 +1,290 @@
+// Identities, the shared checks, and the encoders of the next record of a direction.
+use protocol::Epoch;
+use protocol::Sequence;
+use protocol::outer::OUTER_MAX_PAYLOAD;
+use protocol::refusal::Refusal;
+use record::record::Record;
+use record::record::all_zero;
+use record::record::encode_record;
+use record::types::RecordType;
+ghost use mathlib.Core.Path.{_≡_};
+ghost use mathlib.Core.List.{[], _∷_};
+ghost use Prim.Native.Nat.{min};
+ghost use lib.ListN.{length};
+ghost use Rattle.protocol.specs.Refusals.{first};
+ghost use Rattle.record.specs.Types.{codeOf};
+ghost use Rattle.session.specs.Checks.{same, noIdentity, identityOk, holds, shown, recordIdentity, nextSequence, sequenceRow, otherInstance, instanceRow, epochRow};
+ghost use Rattle.session.specs.Writes.{outcome, notEncoded, encodeNext, encodeData};
+
+// Identity of one epoch of a session.
+pub struct Identity {
+    pub instance_id: [u8; 16],
+    pub epoch: Epoch,
+}
+
+// An identity that may be missing. Where none is held, the bytes beside the mark mean nothing.
+pub struct OptionalIdentity {
+    pub present: bool,
+    pub identity: Identity,
+}
+
+// The sequence after another, or the refusal.
+pub struct NextSequence {
+    pub refusal: Refusal,
+    pub sequence: Sequence,
+}
+
+// What encoding the next record answers: bytes of data taken, the position after the record and the
+// sequence after it.
+pub struct Encoded {
+    pub refusal: Refusal,
+    pub count: usize,
+    pub next: usize,
+    pub sequence: Sequence,
+}
+
+// Whether two instances are the same.
+pub fn same_instance(a: [u8; 16], b: [u8; 16]) -> bool
+    ensures { λ r. ⌜ r ≡ same a b ⌝ }
+{
+    let mut equal = true;
+    let mut i: usize = 0;
+    while i < 16 {
+        if a[i] != b[i] {
+            equal = false;
+        }
+        i += 1;
+    }
+    equal
+}
+
+// No identity: what an answer without one holds.
+pub fn no_identity() -> Identity
+    ensures { λ r. ⌜ r ≡ noIdentity ⌝ }
+{
+    Identity {
+        instance_id: [0u8; 16],
+        epoch: Epoch(0),
+    }
+}
+
+// Whether the fields are an identity: an instance not all zero with an epoch not 0.
+pub fn is_identity(instance_id: [u8; 16], epoch: Epoch) -> bool
+    ensures { λ r. ⌜ r ≡ identityOk «instance_id» (epoch .0) ⌝ }
+{
+    if all_zero(instance_id) {
+        return false;
+    }
+    epoch.0 != 0
+}
+
+impl OptionalIdentity {
+    // Whether an identity is held (01, 23).
+    pub fn is_held(self) -> bool
+        ensures { λ r. ⌜ r ≡ holds self ⌝ }
+    {
+        if !self.present {
+            return false;
+        }
+        let identity = self.identity;
+        let instance_id = identity.instance_id;
+        is_identity(instance_id, identity.epoch)
+    }
+
+    // The identity where one is held, else none.
+    pub fn shown(self) -> OptionalIdentity
+        ensures { λ r. ⌜ r ≡ shown self ⌝ }
+    {
+        let identity = self.identity;
+        if self.present {
+            return OptionalIdentity {
+                present: true,
+                identity,
+            };
+        }
+        OptionalIdentity {
+            present: false,
+            identity: no_identity(),
+        }
+    }
+}
+
+// The identity that a record carries.
+pub fn record_identity(record: Record) -> OptionalIdentity
+    ensures { λ r. ⌜ r ≡ recordIdentity «record» ⌝ }
+{
+    let instance_id = record.instance_id;
+    let epoch = record.epoch;
+    if is_identity(instance_id, epoch) {
+        return OptionalIdentity {
+            present: true,
+            identity: Identity { instance_id, epoch },
+        };
+    }
+    OptionalIdentity {
+        present: false,
+        identity: no_identity(),
+    }
+}
+
+// The sequence after another. The one after 2^64 - 1 does not exist.
+pub fn next_sequence(sequence: Sequence, record_type: RecordType) -> NextSequence
+    ensures { λ r. ⌜ r ≡ nextSequence (sequence .0) (codeOf «record_type») ⌝ }
+{
+    if sequence.0 < u64::MAX {
+        return NextSequence {
+            refusal: Refusal::none(),
+            sequence: Sequence(sequence.0 + 1),
+        };
+    }
+    NextSequence {
+        refusal: Refusal::new(16, record_type.code() as u64, 0, 0),
+        sequence: Sequence(0),
+    }
+}
+
+// Checks a record's sequence.
+pub fn check_sequence(actual: Sequence, expected: Sequence) -> Refusal
+    ensures { λ r. ⌜ r ≡ first (sequenceRow (expected .0) (actual .0) ∷ []) ⌝ }
+{
+    if actual.0 == expected.0 {
+        return Refusal::none();
+    }
+    Refusal::new(15, expected.0, actual.0, 0)
+}
+
+// The refusal of another instance.
+fn wrong_instance(expected: [u8; 16], actual: [u8; 16]) -> Refusal
+    ensures { λ r. ⌜ r ≡ otherInstance expected actual ⌝ }
+{
+    Refusal {
+        number: 12,
+        a: 0,
+        b: 0,
+        c: 0,
+        expected,
+        actual,
+    }
+}
+
+// Checks a record's instance.
+pub fn check_instance(actual: [u8; 16], expected: [u8; 16]) -> Refusal
+    ensures { λ r. ⌜ r ≡ first (instanceRow expected actual ∷ []) ⌝ }
+{
+    if same_instance(actual, expected) {
+        return Refusal::none();
+    }
+    wrong_instance(expected, actual)
+}
+
+// Checks a record's identity: its instance, then its epoch.
+pub fn check_identity(actual: Identity, expected: Identity) -> Refusal
+    ensures { λ r. ⌜ r ≡ first (instanceRow (expected .«instance_id») (actual .«instance_id») ∷ epochRow (expected .epoch .0) (actual .epoch .0) ∷ []) ⌝ }
+{
+    let actual_instance = actual.instance_id;
+    let expected_instance = expected.instance_id;
+    let refusal = check_instance(actual_instance, expected_instance);
+    if refusal.number != 0 {
+        return refusal;
+    }
+    let actual_epoch = actual.epoch;
+    let expected_epoch = expected.epoch;
+    if actual_epoch.0 == expected_epoch.0 {
+        return Refusal::none();
+    }
+    Refusal::new(13, expected_epoch.0, actual_epoch.0, 0)
+}
+
+// Encodes the next record of a direction, of which `count` bytes of data are told.
+fn encode_counted(
+    record_type: RecordType,
+    identity: Identity,
+    sequence: Sequence,
+    count: usize,
+    payload: &[u8],
+    output: &mut [u8],
+    at: usize,
+) -> Encoded
+    ensures { λ r. ⌜ outcome r (now (output .exit)) ≡ encodeNext (codeOf «record_type») identity (sequence .0) count (now (payload .entry)) (now (output .entry)) at ⌝ }
+{
+    let next = next_sequence(sequence, record_type);
+    let following = next.sequence;
+    let missing = next.refusal;
+    if missing.number != 0 {
+        return not_encoded(missing, sequence);
+    }
+    let instance_id = identity.instance_id;
+    let written = encode_record(
+        record_type,
+        instance_id,
+        identity.epoch,
+        sequence,
+        payload,
+        output,
+        at,
+    );
+    let refusal = written.refusal;
+    if refusal.number != 0 {
+        return not_encoded(refusal, sequence);
+    }
+    Encoded {
+        refusal: Refusal::none(),
+        count,
+        next: written.next,
+        sequence: following,
+    }
+}
+
+// Nothing is encoded.
+fn not_encoded(refusal: Refusal, sequence: Sequence) -> Encoded
+    ensures { λ r. ⌜ r ≡ notEncoded refusal (sequence .0) ⌝ }
+{
+    Encoded {
+        refusal,
+        count: 0,
+        next: 0,
+        sequence,
+    }
+}
+
+// Encodes the next record of a direction.
+pub fn encode_next(
+    record_type: RecordType,
+    identity: Identity,
+    sequence: Sequence,
+    payload: &[u8],
+    output: &mut [u8],
+    at: usize,
+) -> Encoded
+    ensures { λ r. ⌜ outcome r (now (output .exit)) ≡ encodeNext (codeOf «record_type») identity (sequence .0) 0 (now (payload .entry)) (now (output .entry)) at ⌝ }
+{
+    encode_counted(record_type, identity, sequence, 0, payload, output, at)
+}
+
+fn least(a: usize, b: usize) -> usize
+    ensures { λ r. ⌜ r ≡ min a b ⌝ }
+{
+    if a < b { a } else { b }
+}
+
+// Encodes a DATA record of at most the first 65,536 bytes, and says how many it took.
+pub fn encode_data(
+    identity: Identity,
+    sequence: Sequence,
+    bytes: &[u8],
+    output: &mut [u8],
+    at: usize,
+) -> Encoded
+    ensures { λ r. ⌜ outcome r (now (output .exit)) ≡ encodeData identity (sequence .0) (now (bytes .entry)) (now (output .entry)) at ⌝ }
+{
+    let taken = least(bytes.len(), OUTER_MAX_PAYLOAD);
+    encode_counted(
+        RecordType::Data,
+        identity,
+        sequence,
+        taken,
+        &bytes[0..taken],
+        output,
+        at,
+    )
+}
