@@ -1,7 +1,7 @@
 -- The rules of a host's other calls (01, "Host" and "What stops each operation").
 use Prim.Native.Nat.{ℕ, _+_, min}
-use mathlib.Core.Bool.{Bool, true, false, not, _&&_}
-use mathlib.Core.List.{List, [], _∷_, _++_}
+use mathlib.Core.Bool.{Bool, false}
+use mathlib.Core.List.{List, [], _∷_}
 use lib.ListN.{length, take, replicate}
 use lib.Dec.{eqb, leb}
 use Rattle.protocol.specs.Bytes.{overlay}
@@ -36,12 +36,18 @@ pub record Outcome : Type 0 where
 abbrev pub outcome : Sent → List ℕ → Outcome
 outcome r o = record { sent = r; output = o }
 
+abbrev pub notSent : Refusal → HostSession → Sent
+notSent r h = record { refusal = r; count = 0; next = 0; session = h }
+
+abbrev pub sentRecord : ℕ → ℕ → HostSession → Sent
+sentRecord count next h = record { refusal = none; count = count; next = next; session = h }
+
 -- where nothing is refused the record's bytes stand at the position; else nothing changes
 unfoldable pub writes : Refusal → HostSession → HostSession → ℕ → List ℕ → List ℕ → ℕ → Outcome
 writes r h after count bytes o at =
     pick (passes r)
-    (outcome (record { refusal = none; count = count; next = at + length bytes; session = after }) (overlay o at bytes))
-    (outcome (record { refusal = r; count = 0; next = 0; session = h }) o)
+    (outcome (sentRecord count (at + length bytes) after) (overlay o at bytes))
+    (outcome (notSent r h) o)
 
 -- attach: 20 not Detached; 22. It writes the 32 capability bytes
 abbrev pub attachRows : HostSession → List ℕ → ℕ → List (Bool × Refusal)
@@ -82,13 +88,17 @@ disconnect h =
     (record { refusal = refusal 23 0 0 0; session = h })
 
 -- ---- asks: 23, then the value; they change nothing
+abbrev pub stateTold : Refusal → HostState → StateAnswer
+stateTold r s = record { refusal = r; state = s }
+
 unfoldable pub stateOf : HostSession → StateAnswer
-stateOf h = pick (soundHost h) (record { refusal = none; state = h .state }) (record { refusal = refusal 23 0 0 0; state = State.Detached })
+stateOf h = pick (soundHost h) (stateTold none (h .state)) (stateTold (refusal 23 0 0 0) State.Detached)
+
+abbrev pub identityTold : Refusal → OptionalIdentity → IdentityAnswer
+identityTold r i = record { refusal = r; identity = i }
 
 unfoldable pub identityOf : HostSession → IdentityAnswer
-identityOf h =
-    pick (soundHost h) (record { refusal = none; identity = shown (h .identity) })
-    (record { refusal = refusal 23 0 0 0; identity = record { present = false; identity = noIdentity } })
+identityOf h = pick (soundHost h) (identityTold none (shown (h .identity))) (identityTold (refusal 23 0 0 0) (record { present = false; identity = noIdentity }))
 
 unfoldable pub neededBy : HostSession → Count
 neededBy h = pick (soundHost h) (record { refusal = none; count = neededOf (h .parser) }) (record { refusal = refusal 23 0 0 0; count = 0 })

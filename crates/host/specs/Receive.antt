@@ -1,7 +1,7 @@
 -- The rule of a host's receive (01, "receive"). What it answers depends on the stage only by its length and by `held`, the payload bytes
 -- that have come; what it leaves in the stage is a rule of its own, `receiveStage`.
 use Prim.Native.Nat.{ℕ}
-use mathlib.Core.Bool.{Bool, true, false, not, _&&_, _||_}
+use mathlib.Core.Bool.{Bool, true, not, _&&_, _||_}
 use mathlib.Core.List.{List, [], _∷_, _++_}
 use lib.ListN.{length}
 use lib.Dec.{eqb, leb}
@@ -14,7 +14,8 @@ use Rattle.record.specs.declared.types.RecordType.the-variants as Kind
 use Rattle.record.specs.declared.record.Record.{Record}
 use Rattle.parser.specs.Push.{Push, push, pushStage, heldIn}
 use Rattle.parser.specs.declared.parser.Place.{Place}
-use Rattle.parser.specs.declared.parser.Place.the-variants.{Piece, Stage}
+use Rattle.parser.specs.declared.parser.Place.the-variants.{Piece}
+use Rattle.parser.specs.declared.parser.Pushed.{Pushed}
 use Rattle.session.specs.Checks.{noIdentity, identityOf, identityRow, nextRow, sequenceRow, instanceRow, epochRow}
 use Rattle.session.specs.declared.session.Identity.{Identity}
 use Rattle.session.specs.declared.session.OptionalIdentity.{OptionalIdentity}
@@ -44,14 +45,15 @@ typeRows t i r =
     (identityRow 3 (r .«instance_id») (r .epoch .0) ∷ instanceRow (i .«instance_id») (r .«instance_id») ∷ staleRow (i .epoch .0) (r .epoch .0) ∷ [])
     []))
 
--- 10 type (a type), 15 sequence, 16 no next sequence (a type), then by the type
+-- 10 type (a type), 15 sequence, 16 no next sequence (a type)
+abbrev pub orderRows : HostState → ℕ → ℕ → ℕ → List (Bool × Refusal)
+orderRows s t actual due = (allowed s t, refusal 10 t 0 0) ∷ sequenceRow due actual ∷ nextRow t due ∷ []
+
+-- 10, 15, 16, then by the type
 abbrev pub recordRows : HostSession → Record → List (Bool × Refusal)
 recordRows h r =
     let t : ℕ = codeOf (r .«record_type») in
-    (allowed (h .state) t, refusal 10 t 0 0) ∷
-    sequenceRow (h .«receive_sequence» .0) (r .sequence .0) ∷
-    nextRow t (h .«receive_sequence» .0) ∷
-    typeRows t (h .identity .identity) r
+    orderRows (h .state) t (r .sequence .0) (h .«receive_sequence» .0) ++ typeRows t (h .identity .identity) r
 
 -- ---- the answers
 -- what a receive does: its answer, the payload bytes held afterwards, and the payload handed out ([] where there is none)
@@ -59,6 +61,10 @@ pub record Receive : Type 0 where
   pub answer : Received
   pub held : List ℕ
   pub payload : List ℕ
+
+-- a push by its answer alone: what the answer of a receive is made of
+abbrev pub told : Pushed → Push
+told a = record { answer = a; held = []; payload = [] }
 
 abbrev pub answered : Refusal → ℕ → HostEvent → Identity → Place → ℕ → HostSession → Received
 answered r consumed event i place n h =

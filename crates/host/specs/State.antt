@@ -1,7 +1,6 @@
 -- The host's states by number, its session values, and soundness (01, "Host" and "What stops each operation").
 use Prim.Native.Nat.{ℕ, _+_}
-use mathlib.Core.Bool.{Bool, true, false, not, _&&_, _||_}
-use mathlib.Core.List.{List}
+use mathlib.Core.Bool.{Bool, false, not, _&&_, _||_}
 use lib.Dec.{eqb, leb}
 use Rattle.parser.specs.Push.{fresh, soundParser}
 use Rattle.parser.specs.declared.parser.RecordParser.{RecordParser}
@@ -75,13 +74,17 @@ nextHost h s p i =
       «send_sequence» = h .«send_sequence»;
     }
 
--- a record sent: the send sequence one more
-abbrev pub sentHost : HostSession → HostSession
-sentHost h =
+-- another send sequence, all else unchanged
+abbrev pub withSent : HostSession → ℕ → HostSession
+withSent h sequence =
     record {
       state = h .state;
       parser = h .parser;
       identity = h .identity;
       «receive_sequence» = h .«receive_sequence»;
-      «send_sequence» = record { 0 = h .«send_sequence» .0 + 1 };
+      «send_sequence» = record { 0 = sequence };
     }
+
+-- a record sent: the send sequence one more
+abbrev pub sentHost : HostSession → HostSession
+sentHost h = withSent h (h .«send_sequence» .0 + 1)

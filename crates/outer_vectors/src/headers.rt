@@ -1,5 +1,4 @@
 // decode_outer_header: the fields it reads, and refusals 25 and 26.
-use crate::print;
 use protocol::Epoch;
 use protocol::Sequence;
 use protocol::outer::OuterHeader;

@@ -1,7 +1,6 @@
 // Worked byte strings of the plain layer, a line for each call: what was called, and what came.
 mod headers;
 mod payloads;
-mod print;
 mod records;
 
 fn main() {

@@ -1,5 +1,4 @@
 // The ack and credit payload pairs: the bytes and values, and refusals 27, 28 and 29.
-use crate::print;
 use protocol::bytes::u32_to_le_bytes;
 use protocol::outer::DecodedPayload;
 use protocol::outer::EncodedPayload;

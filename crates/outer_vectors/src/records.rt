@@ -1,6 +1,5 @@
 // encode_outer: the bytes it writes, and refusals 22 and 24.
 use crate::headers::decode;
-use crate::print;
 use protocol::Epoch;
 use protocol::Sequence;
 use protocol::outer::encode_outer;

@@ -1,136 +1,99 @@
+-- `parser::parser::payload_step` meets its contract. The laws `stepping` have a case for each return: a payload still in progress, one that lies in the piece, and one that ends in the stage (`body-stage`). By `end-fits` the stage is long enough. Assumes nothing.
 use Rattle.parser.proofs.Cases.{stepping, body-stage, end-fits}
 use borrow.Author.Needs.{needs}
 use Rattle.parser.proofs.parser.payload_step.Statement.{statement}
 use Rattle.parser.proofs.parser.payload_step.Tie as tie
-use Rattle.parser.proofs.parser.payload_step.Reads as reads
-use Rattle.parser.proofs.parser.payload_step.Lts as lts
-use Rattle.parser.proofs.parser.finished.Reads as finished-reads
-use Rattle.parser.proofs.parser.least.Reads as least-reads
-use Rattle.parser.proofs.parser.wait.Reads as wait-reads
-use Rattle.protocol.proofs.bytes.copy_at.Reads as copy-at-reads
-use Rattle.protocol.proofs.fields.length.Reads as length-reads
 
--- src/parser.rt:183:16
 length-requires : tie.Need-length-requires
 length-requires c κs = search needs
 
--- src/parser.rt:183:16
 cast-size : tie.Need-cast-size
 cast-size c = search needs
 
--- src/parser.rt:184:19
 sub-least : tie.Need-sub-least
 sub-least c = search needs
 
--- src/parser.rt:184:9
 least-requires : tie.Need-least-requires
 least-requires c κs = search needs
 
--- src/parser.rt:185:8
 add-if1 : tie.Need-add-if1
 add-if1 c = search needs
 
--- src/parser.rt:186:32
 sub-copy-at : tie.Need-sub-copy-at
 sub-copy-at c = search needs
 
--- src/parser.rt:186:32
 part-copy-at-start : tie.Need-part-copy-at-start
 part-copy-at-start c = search needs
 
--- src/parser.rt:186:32
 part-copy-at-end : tie.Need-part-copy-at-end
 part-copy-at-end c = search needs
 
--- src/parser.rt:186:9
 copy-at-requires : tie.Need-copy-at-requires
 copy-at-requires c κs = search needs
 
--- src/parser.rt:187:47
 add-wait : tie.Need-add-wait
 add-wait c = search needs
 
--- src/parser.rt:187:59
 add-wait-2 : tie.Need-add-wait-2
 add-wait-2 c = search needs
 
--- src/parser.rt:187:9
 wait-requires : tie.Need-wait-requires
 wait-requires c κs = search needs
 
--- src/parser.rt:187:9
 same-length : tie.Need-same-length
 same-length c = search needs
 
--- src/parser.rt:187:9
 returns : tie.Need-returns
 returns c = search stepping
 
--- src/parser.rt:190:33
 sub-finished : tie.Need-sub-finished
 sub-finished c = search needs
 
--- src/parser.rt:190:33
 part-finished-start : tie.Need-part-finished-start
 part-finished-start c = search needs
 
--- src/parser.rt:190:33
 part-finished-end : tie.Need-part-finished-end
 part-finished-end c = search needs
 
--- src/parser.rt:190:46
 add-finished : tie.Need-add-finished
 add-finished c = search needs
 
--- src/parser.rt:190:9
 finished-requires : tie.Need-finished-requires
 finished-requires c κs = search needs
 
--- src/parser.rt:190:9
 returns-2 : tie.Need-returns-2
 returns-2 c = search stepping
 
--- src/parser.rt:192:28
 sub-copy-at-2 : tie.Need-sub-copy-at-2
 sub-copy-at-2 c = search needs
 
--- src/parser.rt:192:28
 part-copy-at-start-2 : tie.Need-part-copy-at-start-2
 part-copy-at-start-2 c = search needs
 
--- src/parser.rt:192:28
 part-copy-at-end-2 : tie.Need-part-copy-at-end-2
 part-copy-at-end-2 c = search needs
 
--- src/parser.rt:192:5
 copy-at-requires-2 : tie.Need-copy-at-requires-2
 copy-at-requires-2 c κs = search needs
 
--- src/parser.rt:193:22
 sub-finished-2 : tie.Need-sub-finished-2
 sub-finished-2 c = search needs
 
--- src/parser.rt:193:22
 part-finished-start-2 : tie.Need-part-finished-start-2
 part-finished-start-2 c = search needs
 
--- src/parser.rt:193:22
 part-finished-end-2 : tie.Need-part-finished-end-2
 part-finished-end-2 c = search end-fits
 
--- src/parser.rt:193:39
 add-finished-2 : tie.Need-add-finished-2
 add-finished-2 c = search needs
 
--- src/parser.rt:193:5
 finished-requires-2 : tie.Need-finished-requires-2
 finished-requires-2 c κs = search needs
 
--- src/parser.rt:173:1
 same-length-2 : tie.Need-same-length-2
 same-length-2 c = search needs
 
--- src/parser.rt:173:1
 returns-3 : tie.Need-returns-3
 returns-3 c =
     let p = c .before .before .before .before .before .before .before .before .before .before .before .before .before .before .before .pre in

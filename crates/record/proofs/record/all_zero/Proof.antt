@@ -1,3 +1,4 @@
+-- `record::record::all_zero` meets its contract. The loop's invariant: `zero` says whether the first `i` bytes are all zero; `zero-more` and `zero-never` go one byte on. The measure is what is left of 16. Assumes nothing.
 use Prim.Native.Nat.{_+_, _-_, _≤_, _<_}
 use mathlib.Core.Path.{_≡_, refl, ap, _∙_}
 use mathlib.Core.Logic.{⊎-elim}
@@ -9,8 +10,6 @@ use Rattle.record.specs.Record.{allZero}
 use Rattle.record.proofs.Zeros.{zero-more, zero-never}
 use Rattle.record.proofs.record.all_zero.Statement.{statement}
 use Rattle.record.proofs.record.all_zero.Tie as tie
-use Rattle.record.proofs.record.all_zero.Reads as reads
-use Rattle.record.proofs.record.all_zero.Lts as lts
 
 abbrev Inv-loop : tie.InvT-loop
 Inv-loop bytes zero₀ i₀ zero i = (i ≤ 16) × (zero ≡ allZero (take i bytes)) × (length bytes ≡ 16)
@@ -18,23 +17,18 @@ Inv-loop bytes zero₀ i₀ zero i = (i ≤ 16) × (zero ≡ allZero (take i byt
 abbrev μ-loop : tie.MeasureT-loop
 μ-loop bytes zero₀ i₀ zero i = 16 - i
 
--- src/record.rt:45:5
 loop-holds : tie.Need-loop-holds Inv-loop μ-loop
 loop-holds c = (search needs, (unfold allZero in refl), search needs)
 
--- src/record.rt:46:12
 array-read-if1 : tie.Need-array-read-if1 Inv-loop μ-loop
 array-read-if1 c = omega arith
 
--- src/record.rt:49:9
 add-i : tie.Need-add-i Inv-loop μ-loop
 add-i c = omega arith
 
--- src/record.rt:45:5
 loop-less : tie.Need-loop-less Inv-loop μ-loop
 loop-less c = omega arith
 
--- src/record.rt:45:5
 loop-again : tie.Need-loop-again Inv-loop μ-loop
 loop-again c =
     let l = c .before .before .loop in
@@ -42,7 +36,6 @@ loop-again c =
     let h : l .i < length b = omega arith in
     (omega arith, ⊎-elim (λ w. w .1 ∙ zero-never b (l .i) h (w .0 .taken)) (λ w. w .1 ∙ zero-more b (l .i) h (l .zero) (l .inv .1) (w .0 .left)) (c .if1 .came), l .inv .2)
 
--- src/record.rt:40:1
 returns : tie.Need-returns Inv-loop μ-loop
 returns c = c .before .loop .inv .1 ∙ ap allZero (take-all (c .before .loop .i) (c .before .before .args .t1) (omega arith))
 

@@ -1,140 +1,104 @@
+-- `record::record::check_payload` meets its contract. Each type has a case. Six have no value to check; `ack-value`, `error-value` and `credit-value` take over what the check of the value ensures. Assumes nothing.
 use Rattle.record.proofs.Cases.{ack-value, credit-value, error-value}
 use Rattle.protocol.specs.Refusals.{first}
 use Rattle.record.specs.Record.{payloadChecks}
 use borrow.Author.Needs.{needs}
 use Rattle.record.proofs.record.check_payload.Statement.{statement}
 use Rattle.record.proofs.record.check_payload.Tie as tie
-use Rattle.record.proofs.record.check_payload.Reads as reads
-use Rattle.record.proofs.record.check_payload.Lts as lts
-use Rattle.protocol.proofs.outer.value.Reads as value-reads
-use Rattle.protocol.proofs.refusal.Refusal.none.Reads as none-reads
-use Rattle.record.proofs.record.check_credit.Reads as check-credit-reads
-use Rattle.record.proofs.record.check_error.Reads as check-error-reads
-use Rattle.record.proofs.record.check_window.Reads as check-window-reads
 
--- src/record.rt:143:36
 enum-told : tie.Need-enum-told
 enum-told c = search needs
 
--- src/record.rt:143:36
 none-requires : tie.Need-none-requires
 none-requires c κs = search needs
 
--- src/record.rt:144:35
 enum-told-2 : tie.Need-enum-told-2
 enum-told-2 c = search needs
 
--- src/record.rt:144:35
 none-requires-2 : tie.Need-none-requires-2
 none-requires-2 c κs = search needs
 
--- src/record.rt:145:30
 enum-told-3 : tie.Need-enum-told-3
 enum-told-3 c = search needs
 
--- src/record.rt:145:30
 none-requires-3 : tie.Need-none-requires-3
 none-requires-3 c κs = search needs
 
--- src/record.rt:146:41
 enum-told-4 : tie.Need-enum-told-4
 enum-told-4 c = search needs
 
--- src/record.rt:146:41
 value-requires : tie.Need-value-requires
 value-requires c κs = search needs
 
--- src/record.rt:146:28
 check-window-requires : tie.Need-check-window-requires
 check-window-requires c κs = search needs
 
--- src/record.rt:147:29
 enum-told-5 : tie.Need-enum-told-5
 enum-told-5 c = search needs
 
--- src/record.rt:147:29
 none-requires-4 : tie.Need-none-requires-4
 none-requires-4 c κs = search needs
 
--- src/record.rt:148:29
 enum-told-6 : tie.Need-enum-told-6
 enum-told-6 c = search needs
 
--- src/record.rt:148:29
 none-requires-5 : tie.Need-none-requires-5
 none-requires-5 c κs = search needs
 
--- src/record.rt:149:30
 enum-told-7 : tie.Need-enum-told-7
 enum-told-7 c = search needs
 
--- src/record.rt:149:30
 none-requires-6 : tie.Need-none-requires-6
 none-requires-6 c κs = search needs
 
--- src/record.rt:150:42
 enum-told-8 : tie.Need-enum-told-8
 enum-told-8 c = search needs
 
--- src/record.rt:150:42
 value-requires-2 : tie.Need-value-requires-2
 value-requires-2 c κs = search needs
 
--- src/record.rt:150:30
 check-error-requires : tie.Need-check-error-requires
 check-error-requires c κs = search needs
 
--- src/record.rt:151:44
 enum-told-9 : tie.Need-enum-told-9
 enum-told-9 c = search needs
 
--- src/record.rt:151:44
 value-requires-3 : tie.Need-value-requires-3
 value-requires-3 c κs = search needs
 
--- src/record.rt:151:31
 check-credit-requires : tie.Need-check-credit-requires
 check-credit-requires c κs = search needs
 
--- src/record.rt:139:1
 returns : tie.Need-returns
 unfolding payloadChecks first
 returns c = rw (c .before .enum-told .given .1) (c .none .ensures)
 
--- src/record.rt:139:1
 returns-2 : tie.Need-returns-2
 unfolding payloadChecks first
 returns-2 c = rw (c .before .enum-told2 .given .1) (c .none2 .ensures)
 
--- src/record.rt:139:1
 returns-3 : tie.Need-returns-3
 unfolding payloadChecks first
 returns-3 c = rw (c .before .enum-told3 .given .1) (c .none3 .ensures)
 
--- src/record.rt:139:1
 returns-4 : tie.Need-returns-4
 returns-4 c = rw (c .before .before .enum-told4 .given .1) (ack-value _ _ _ (c .before .value .ensures) (c .check-window .ensures))
 
--- src/record.rt:139:1
 returns-5 : tie.Need-returns-5
 unfolding payloadChecks first
 returns-5 c = rw (c .before .enum-told5 .given .1) (c .none4 .ensures)
 
--- src/record.rt:139:1
 returns-6 : tie.Need-returns-6
 unfolding payloadChecks first
 returns-6 c = rw (c .before .enum-told6 .given .1) (c .none5 .ensures)
 
--- src/record.rt:139:1
 returns-7 : tie.Need-returns-7
 unfolding payloadChecks first
 returns-7 c = rw (c .before .enum-told7 .given .1) (c .none6 .ensures)
 
--- src/record.rt:139:1
 returns-8 : tie.Need-returns-8
 returns-8 c = rw (c .before .before .enum-told8 .given .1) (error-value _ _ _ (c .before .value2 .ensures) (c .check-error .ensures))
 
--- src/record.rt:139:1
 returns-9 : tie.Need-returns-9
 returns-9 c = rw (c .before .before .enum-told9 .given .1) (credit-value _ _ _ (c .before .value3 .ensures) (c .check-credit .ensures))
 

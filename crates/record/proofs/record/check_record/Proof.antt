@@ -1,34 +1,24 @@
+-- `record::record::check_record` meets its contract. The laws `recording` have a case for each return: 5, 6, and what `check_payload` ensures. Assumes nothing.
 use Rattle.record.proofs.Cases.{recording}
 use borrow.Author.Needs.{needs}
 use Rattle.record.proofs.record.check_record.Statement.{statement}
 use Rattle.record.proofs.record.check_record.Tie as tie
-use Rattle.record.proofs.record.check_record.Reads as reads
-use Rattle.record.proofs.record.check_record.Lts as lts
-use Rattle.record.proofs.record.check_bootstrap.Reads as check-bootstrap-reads
-use Rattle.record.proofs.record.check_length.Reads as check-length-reads
-use Rattle.record.proofs.record.check_payload.Reads as check-payload-reads
 
--- src/record.rt:244:9
 check-length-requires : tie.Need-check-length-requires
 check-length-requires c κs = search needs
 
--- src/record.rt:246:9
 returns : tie.Need-returns
 returns c = search recording
 
--- src/record.rt:248:9
 check-bootstrap-requires : tie.Need-check-bootstrap-requires
 check-bootstrap-requires c κs = search needs
 
--- src/record.rt:250:9
 returns-2 : tie.Need-returns-2
 returns-2 c = search recording
 
--- src/record.rt:252:5
 check-payload-requires : tie.Need-check-payload-requires
 check-payload-requires c κs = search needs
 
--- src/record.rt:235:1
 returns-3 : tie.Need-returns-3
 returns-3 c = search recording
 

@@ -1,47 +1,34 @@
+-- `record::record::encode_record` meets its contract. A refusal of `check_record` is the answer, by `encode-stops`; else `encode-put` takes over what `put_record` ensures with the header made. By `length-fits` the length of a payload that passed fits 32 bits. Assumes nothing.
 use Rattle.record.specs.Types.{codeOf}
 use native.Mathlib.Omega.{arith}
 use Rattle.record.proofs.Cases.{encode-stops, encode-put, length-fits}
 use borrow.Author.Needs.{needs}
 use Rattle.record.proofs.record.encode_record.Statement.{statement}
 use Rattle.record.proofs.record.encode_record.Tie as tie
-use Rattle.record.proofs.record.encode_record.Reads as reads
-use Rattle.record.proofs.record.encode_record.Lts as lts
-use Rattle.protocol.proofs.outer.encode_header.Reads as encode-header-reads
-use Rattle.protocol.proofs.outer.put_record.Reads as put-record-reads
-use Rattle.record.proofs.record.check_record.Reads as check-record-reads
-use Rattle.record.proofs.types.RecordType.code.Reads as code-reads
 
--- src/record.rt:267:9
 check-record-requires : tie.Need-check-record-requires
 check-record-requires c κs = search needs
 
--- src/record.rt:269:9
 returns : tie.Need-returns
 returns c = search encode-stops
 
--- src/record.rt:271:9
 code-requires : tie.Need-code-requires
 code-requires c κs = search needs
 
--- src/record.rt:272:18
 cast-length : tie.Need-cast-length
 cast-length c =
     let a = c .before .before .before .before .before .before .args in
     omega (arith, length-fits (codeOf (a .record-type)) (a .instance-id) (a .epoch .0) (a .sequence .0) (a .payload .now) _ (c .before .before .before .check-record .ensures) (c .before .if1 .left))
 
--- src/record.rt:273:9
 encode-header-requires : tie.Need-encode-header-requires
 encode-header-requires c κs = search needs
 
--- src/record.rt:274:5
 put-record-requires : tie.Need-put-record-requires
 put-record-requires c κs = search needs
 
--- src/record.rt:256:1
 same-length : tie.Need-same-length
 same-length c = search needs
 
--- src/record.rt:256:1
 returns-2 : tie.Need-returns-2
 returns-2 c =
     encode-put _ _ _ _ _ _ _ _ (c .before .before .before .before .before .before .before .before .check-record .ensures) _ _ _ _ (c .before .before .before .before .before .before .if1 .left) (search (needs, c .before .before .before .before .before .before .before .before .before .before .before .good .1 .0)) (c .before .before .before .before .before .code .ensures) (c .before .before .before .before .encode-header .ensures) (c .before .before .put-record .ensures)

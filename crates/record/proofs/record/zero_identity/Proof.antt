@@ -1,24 +1,18 @@
+-- `record::record::zero_identity` meets its contract. The laws `zeroing` have a case for each return: an instance not zero, an epoch not zero, and the test of the sequence. Assumes nothing.
 use Rattle.record.proofs.Cases.{zeroing}
 use borrow.Author.Needs.{needs}
 use Rattle.record.proofs.record.zero_identity.Statement.{statement}
 use Rattle.record.proofs.record.zero_identity.Tie as tie
-use Rattle.record.proofs.record.zero_identity.Reads as reads
-use Rattle.record.proofs.record.zero_identity.Lts as lts
-use Rattle.record.proofs.record.all_zero.Reads as all-zero-reads
 
--- src/record.rt:99:9
 all-zero-requires : tie.Need-all-zero-requires
 all-zero-requires c κs = search needs
 
--- src/record.rt:100:9
 returns : tie.Need-returns
 returns c = search zeroing
 
--- src/record.rt:103:9
 returns-2 : tie.Need-returns-2
 returns-2 c = search zeroing
 
--- src/record.rt:96:1
 returns-3 : tie.Need-returns-3
 returns-3 c = search zeroing
 

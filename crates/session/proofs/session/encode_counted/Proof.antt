@@ -1,51 +1,36 @@
+-- `session::session::encode_counted` meets its contract. Each way it returns is a case of its rule: `encoding`, `next-done` of proofs/Cases. Assumes nothing.
 use Rattle.session.proofs.Cases.{encoding, next-done}
 use borrow.Author.Needs.{needs}
 use Rattle.session.proofs.session.encode_counted.Statement.{statement}
 use Rattle.session.proofs.session.encode_counted.Tie as tie
-use Rattle.session.proofs.session.encode_counted.Reads as reads
-use Rattle.session.proofs.session.encode_counted.Lts as lts
-use Rattle.protocol.proofs.refusal.Refusal.none.Reads as none-reads
-use Rattle.record.proofs.record.encode_record.Reads as encode-record-reads
-use Rattle.session.proofs.session.next_sequence.Reads as next-sequence-reads
-use Rattle.session.proofs.session.not_encoded.Reads as not-encoded-reads
 
--- src/session.rt:207:9
 next-sequence-requires : tie.Need-next-sequence-requires
 next-sequence-requires c κs = search needs
 
--- src/session.rt:211:9
 not-encoded-requires : tie.Need-not-encoded-requires
 not-encoded-requires c κs = search needs
 
--- src/session.rt:211:9
 returns : tie.Need-returns
 returns c = search encoding
 
--- src/session.rt:214:9
 encode-record-requires : tie.Need-encode-record-requires
 encode-record-requires c κs = search needs
 
--- src/session.rt:217:9
 not-encoded-requires-2 : tie.Need-not-encoded-requires-2
 not-encoded-requires-2 c κs = search needs
 
--- src/session.rt:217:9
 same-length : tie.Need-same-length
 same-length c = search needs
 
--- src/session.rt:217:9
 returns-2 : tie.Need-returns-2
 returns-2 c = search encoding
 
--- src/session.rt:220:18
 none-requires : tie.Need-none-requires
 none-requires c κs = search needs
 
--- src/session.rt:196:1
 same-length-2 : tie.Need-same-length-2
 same-length-2 c = search needs
 
--- src/session.rt:196:1
 returns-3 : tie.Need-returns-3
 returns-3 c =
     next-done _ _ _ _ _ _ _ _ (c .before .before .before .before .before .before .before .before .before .before .before .before .before .next-sequence .ensures) _ _ (c .before .before .before .before .before .before .before .before .before .if1 .left) (c .before .before .before .before .before .before .encode-record .ensures) _ (c .before .if2 .left) (c .none .ensures)

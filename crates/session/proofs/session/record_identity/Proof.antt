@@ -1,25 +1,18 @@
+-- `session::session::record_identity` meets its contract. The laws `carrying` have a case for each return: the record's identity, and none. Assumes nothing.
 use Rattle.session.proofs.Cases.{carrying}
 use borrow.Author.Needs.{needs}
 use Rattle.session.proofs.session.record_identity.Statement.{statement}
 use Rattle.session.proofs.session.record_identity.Tie as tie
-use Rattle.session.proofs.session.record_identity.Reads as reads
-use Rattle.session.proofs.session.record_identity.Lts as lts
-use Rattle.session.proofs.session.is_identity.Reads as is-identity-reads
-use Rattle.session.proofs.session.no_identity.Reads as no-identity-reads
 
--- src/session.rt:115:8
 is-identity-requires : tie.Need-is-identity-requires
 is-identity-requires c κs = search needs
 
--- src/session.rt:116:9
 returns : tie.Need-returns
 returns c = search carrying
 
--- src/session.rt:123:19
 no-identity-requires : tie.Need-no-identity-requires
 no-identity-requires c κs = search needs
 
--- src/session.rt:110:1
 returns-2 : tie.Need-returns-2
 returns-2 c = search carrying
 

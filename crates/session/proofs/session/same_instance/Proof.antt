@@ -1,4 +1,5 @@
-use Prim.Native.Nat.{_+_, _-_, _≤_, _<_}
+-- `session::session::same_instance` meets its contract. The loop's invariant: `equal` says whether the first `i` bytes agree; `same-more` and `same-never` go one byte on. The measure is what is left of 16. Assumes nothing.
+use Prim.Native.Nat.{_-_, _≤_, _<_}
 use mathlib.Core.Path.{_≡_, refl, ap₂, _∙_}
 use mathlib.Core.Logic.{⊎-elim}
 use native.Mathlib.Omega.{arith}
@@ -9,8 +10,6 @@ use Rattle.session.specs.Checks.{same}
 use Rattle.session.proofs.Same.{same-more, same-never}
 use Rattle.session.proofs.session.same_instance.Statement.{statement}
 use Rattle.session.proofs.session.same_instance.Tie as tie
-use Rattle.session.proofs.session.same_instance.Reads as reads
-use Rattle.session.proofs.session.same_instance.Lts as lts
 
 abbrev Inv-loop : tie.InvT-loop
 Inv-loop a b equal₀ i₀ equal i = (i ≤ 16) × (equal ≡ same (take i a) (take i b)) × (length a ≡ 16) × (length b ≡ 16)
@@ -18,27 +17,21 @@ Inv-loop a b equal₀ i₀ equal i = (i ≤ 16) × (equal ≡ same (take i a) (t
 abbrev μ-loop : tie.MeasureT-loop
 μ-loop a b equal₀ i₀ equal i = 16 - i
 
--- src/session.rt:49:5
 loop-holds : tie.Need-loop-holds Inv-loop μ-loop
 loop-holds c = (search needs, (unfold same in refl), search needs, search needs)
 
--- src/session.rt:50:12
 array-read-if1 : tie.Need-array-read-if1 Inv-loop μ-loop
 array-read-if1 c = omega arith
 
--- src/session.rt:50:20
 array-read-if1-2 : tie.Need-array-read-if1-2 Inv-loop μ-loop
 array-read-if1-2 c = omega arith
 
--- src/session.rt:53:9
 add-i : tie.Need-add-i Inv-loop μ-loop
 add-i c = omega arith
 
--- src/session.rt:49:5
 loop-less : tie.Need-loop-less Inv-loop μ-loop
 loop-less c = omega arith
 
--- src/session.rt:49:5
 loop-again : tie.Need-loop-again Inv-loop μ-loop
 loop-again c =
     let l = c .before .before .loop in
@@ -48,7 +41,6 @@ loop-again c =
     let k : l .i < length b = omega arith in
     (omega arith, ⊎-elim (λ w. w .1 ∙ same-never a b (l .i) h k (w .0 .taken)) (λ w. w .1 ∙ same-more a b (l .i) h k (l .equal) (l .inv .1) (w .0 .left)) (c .if1 .came), l .inv .2, l .inv .3)
 
--- src/session.rt:44:1
 returns : tie.Need-returns Inv-loop μ-loop
 returns c =
     let i = c .before .loop .i in

@@ -1,21 +1,15 @@
+-- `record::record::Record::window` meets its contract. It follows from what `value_in` ensures for type 4, by `value-told`. Assumes nothing.
 use Rattle.record.proofs.Cases.{value-told}
 use borrow.Author.Needs.{needs}
 use Rattle.record.proofs.record.Record.window.Statement.{statement}
 use Rattle.record.proofs.record.Record.window.Tie as tie
-use Rattle.record.proofs.record.Record.window.Reads as reads
-use Rattle.record.proofs.record.Record.window.Lts as lts
-use Rattle.record.proofs.record.value_in.Reads as value-in-reads
-use Rattle.record.proofs.types.RecordType.code.Reads as code-reads
 
--- src/record.rt:305:21
 code-requires : tie.Need-code-requires
 code-requires c κs = search needs
 
--- src/record.rt:305:9
 value-in-requires : tie.Need-value-in-requires
 value-in-requires c κs = search needs
 
--- src/record.rt:301:5
 returns : tie.Need-returns
 returns c = search value-told
 

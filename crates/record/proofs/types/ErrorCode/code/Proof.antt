@@ -1,10 +1,8 @@
+-- `record::types::ErrorCode::code` meets its contract. There is one code, and its value is 1: `only-error`. Assumes nothing.
 use Rattle.record.proofs.Cases.{only-error}
 use Rattle.record.proofs.types.ErrorCode.code.Statement.{statement}
 use Rattle.record.proofs.types.ErrorCode.code.Tie as tie
-use Rattle.record.proofs.types.ErrorCode.code.Reads as reads
-use Rattle.record.proofs.types.ErrorCode.code.Lts as lts
 
--- src/types.rt:125:5
 returns : tie.Need-returns
 returns c = only-error (c .args .self)
 

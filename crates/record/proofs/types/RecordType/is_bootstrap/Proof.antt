@@ -1,78 +1,59 @@
+-- `record::types::RecordType::is_bootstrap` meets its contract. Each type has a case, and the rule on its code gives the answer. Assumes nothing.
 use borrow.Author.Needs.{needs}
 use Rattle.record.proofs.types.RecordType.is_bootstrap.Statement.{statement}
 use Rattle.record.proofs.types.RecordType.is_bootstrap.Tie as tie
-use Rattle.record.proofs.types.RecordType.is_bootstrap.Reads as reads
-use Rattle.record.proofs.types.RecordType.is_bootstrap.Lts as lts
 
--- src/types.rt:93:40
 enum-told : tie.Need-enum-told
 enum-told c = search needs
 
--- src/types.rt:94:39
 enum-told-2 : tie.Need-enum-told-2
 enum-told-2 c = search needs
 
--- src/types.rt:95:34
 enum-told-3 : tie.Need-enum-told-3
 enum-told-3 c = search needs
 
--- src/types.rt:96:32
 enum-told-4 : tie.Need-enum-told-4
 enum-told-4 c = search needs
 
--- src/types.rt:97:33
 enum-told-5 : tie.Need-enum-told-5
 enum-told-5 c = search needs
 
--- src/types.rt:98:33
 enum-told-6 : tie.Need-enum-told-6
 enum-told-6 c = search needs
 
--- src/types.rt:99:34
 enum-told-7 : tie.Need-enum-told-7
 enum-told-7 c = search needs
 
--- src/types.rt:100:34
 enum-told-8 : tie.Need-enum-told-8
 enum-told-8 c = search needs
 
--- src/types.rt:101:35
 enum-told-9 : tie.Need-enum-told-9
 enum-told-9 c = search needs
 
--- src/types.rt:89:5
 returns : tie.Need-returns
 returns c = rw (c .enum-told .given .1)
 
--- src/types.rt:89:5
 returns-2 : tie.Need-returns-2
 returns-2 c = rw (c .enum-told2 .given .1)
 
--- src/types.rt:89:5
 returns-3 : tie.Need-returns-3
 returns-3 c = rw (c .enum-told3 .given .1)
 
--- src/types.rt:89:5
 returns-4 : tie.Need-returns-4
 returns-4 c = rw (c .enum-told4 .given .1)
 
--- src/types.rt:89:5
 returns-5 : tie.Need-returns-5
 returns-5 c = rw (c .enum-told5 .given .1)
 
--- src/types.rt:89:5
 returns-6 : tie.Need-returns-6
 returns-6 c = rw (c .enum-told6 .given .1)
 
--- src/types.rt:89:5
 returns-7 : tie.Need-returns-7
 returns-7 c = rw (c .enum-told7 .given .1)
 
--- src/types.rt:89:5
 returns-8 : tie.Need-returns-8
 returns-8 c = rw (c .enum-told8 .given .1)
 
--- src/types.rt:89:5
 returns-9 : tie.Need-returns-9
 returns-9 c = rw (c .enum-told9 .given .1)
 

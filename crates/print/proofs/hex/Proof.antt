@@ -1,10 +1,10 @@
--- `outer_vectors::print::hex` meets its contract. The loop's invariant: `i` is at most the number of bytes. The measure is what is left of them.
+-- `print::hex` meets its contract. The loop's invariant: `i` is at most the number of bytes. The measure is what is left of them.
 -- Assumes nothing.
 use Prim.Native.Nat.{_≤_, _-_}
 use lib.ListN.{length}
 use borrow.Author.Needs.{needs}
-use Rattle.outer_vectors.proofs.print.hex.Statement.{statement}
-use Rattle.outer_vectors.proofs.print.hex.Tie as tie
+use Rattle.print.proofs.hex.Statement.{statement}
+use Rattle.print.proofs.hex.Tie as tie
 
 abbrev Inv-loop : tie.InvT-loop
 Inv-loop bytes i₀ i = i ≤ length bytes

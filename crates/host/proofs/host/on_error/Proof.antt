@@ -1,0 +1,17 @@
+-- `host::host::on_error` meets its contract. It is the clause of `effect` for ERROR, by `error-is`. Assumes nothing.
+use borrow.Author.Needs.{needs}
+use Rattle.host.proofs.Receiving.{error-is}
+use Rattle.host.proofs.host.on_error.Statement.{statement}
+use Rattle.host.proofs.host.on_error.Tie as tie
+
+no-identity-requires : tie.Need-no-identity-requires
+no-identity-requires c κs = search needs
+
+report-requires : tie.Need-report-requires
+report-requires c κs = search needs
+
+returns : tie.Need-returns
+returns c = search error-is
+
+pub on-error-spec : {M : Type 1} → statement M
+on-error-spec = tie.close (tie.spec no-identity-requires report-requires returns)

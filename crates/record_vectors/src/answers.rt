@@ -1,0 +1,93 @@
+// What a call answered, at the end of a line.
+use parser::parser::Place;
+use parser::parser::Pushed;
+use parser::parser::RecordParser;
+use parser::parser::payload;
+use protocol::outer::Written;
+use protocol::refusal::Refusal;
+use record::record::Record;
+use record::record::Value;
+use record::types::ErrorLookup;
+
+// A refusal's number and its first two figures.
+fn refusal(refusal: Refusal) {
+    print::refusal(refusal.number);
+    print::labelled(b" a ", refusal.a);
+    print::labelled(b" b ", refusal.b);
+}
+
+// What the encoder answered.
+pub fn written(written: Written) {
+    if written.refusal.number == 0 {
+        print::labelled(b"next ", written.next as u64);
+    } else {
+        refusal(written.refusal);
+    }
+    print::end_line();
+}
+
+// How many bytes the parser still needs, and how many it holds.
+fn counts(parser: RecordParser) {
+    print::labelled(b" needed ", parser.needed().count as u64);
+    print::labelled(b" buffered ", parser.buffered().count as u64);
+}
+
+// What a push answered. `taken` counts the bytes that it and the pushes before it took.
+pub fn pushed<'a>(pushed: Pushed, taken: u64, piece: &'a [u8], stage: &'a [u8]) {
+    print::labelled(b"taken ", taken);
+    print::text(b" ");
+    let refused = pushed.refusal;
+    let record = pushed.record;
+    let place = pushed.place;
+    let parser = pushed.parser;
+    if refused.number != 0 {
+        refusal(refused);
+    } else if pushed.complete {
+        complete(record, place, piece, stage);
+    } else {
+        print::text(b"no record");
+    }
+    counts(parser);
+    print::end_line();
+}
+
+// A record's fields, the numbers in its payload, and the payload's first four bytes.
+fn complete<'a>(record: Record, place: Place, piece: &'a [u8], stage: &'a [u8]) {
+    let instance = record.instance_id();
+    let bytes = payload(piece, stage, place, record.length());
+    print::labelled(b"type ", record.record_type().code() as u64);
+    print::text(b" instance ");
+    print::hex(&instance);
+    print::labelled(b" epoch ", record.epoch().0);
+    print::labelled(b" sequence ", record.sequence().0);
+    print::labelled(b" length ", record.length() as u64);
+    number(b" window ", record.window(bytes));
+    number(b" credit ", record.credit(bytes));
+    error_code(record.error_code(bytes));
+    if bytes.len() != 0 {
+        print::text(b" payload ");
+        print::hex(start(bytes));
+    }
+}
+
+// A number where there is one.
+fn number(label: &[u8], value: Value) {
+    if value.present {
+        print::labelled(label, value.value as u64);
+    }
+}
+
+// An error code where there is one.
+fn error_code(found: ErrorLookup) {
+    if let ErrorLookup::Known(code) = found {
+        print::labelled(b" error ", code.code() as u64);
+    }
+}
+
+// At most the first four bytes.
+fn start<'a>(bytes: &'a [u8]) -> &'a [u8] {
+    if bytes.len() < 4 {
+        return bytes;
+    }
+    &bytes[0..4]
+}

@@ -1,0 +1,86 @@
+// Headers with a wrong field: 1, 2, 3, 4 and 6.
+use crate::records::Fields;
+use crate::records::in_pieces;
+use crate::records::there_and_back;
+use protocol::Epoch;
+use protocol::Sequence;
+use protocol::outer::encode_header;
+use record::types::RecordType;
+
+// The header of a RESET with another byte at one or two indexes.
+fn changed(index: usize, byte: u8, second: usize, other: u8) {
+    let mut header = encode_header(3, [0x11u8; 16], Epoch(7), Sequence(0), 0);
+    if index < 44 {
+        header[index] = byte;
+    }
+    if second < 44 {
+        header[second] = other;
+    }
+    shown(&header);
+}
+
+// A header to a parser in pieces of seven bytes.
+fn shown(header: &[u8; 44]) {
+    print::text(b"push ");
+    print::hex(header);
+    in_pieces(header, 7);
+}
+
+// Each byte of magic and version, unknown types, flags. Where two fields are wrong the first
+// counts: an unknown type before the flags, the flags before the length.
+pub fn wrong() {
+    changed(0, 0x4F, 44, 0);
+    changed(1, 0x57, 44, 0);
+    changed(2, 0x59, 44, 0);
+    changed(3, 0x54, 44, 0);
+    changed(4, 2, 44, 0);
+    changed(5, 1, 44, 0);
+    changed(6, 0, 44, 0);
+    changed(6, 10, 44, 0);
+    changed(6, 255, 44, 0);
+    changed(7, 1, 44, 0);
+    changed(7, 128, 44, 0);
+    changed(3, 0x54, 4, 2);
+    changed(4, 2, 6, 10);
+    changed(6, 10, 7, 1);
+    changed(7, 1, 40, 1);
+    changed(43, 1, 44, 0);
+}
+
+// Bootstrap records with one field that is not zero: the last byte of the instance, the epoch, the
+// sequence.
+fn identity(record_type: RecordType, payload: &[u8]) {
+    let mut last = [0u8; 16];
+    last[15] = 1;
+    let zero = [0u8; 16];
+    let named = Fields {
+        instance_id: last,
+        epoch: Epoch(0),
+        sequence: Sequence(0),
+    };
+    there_and_back(record_type, named, payload, 80);
+    let later = Fields {
+        instance_id: zero,
+        epoch: Epoch(1),
+        sequence: Sequence(0),
+    };
+    there_and_back(record_type, later, payload, 80);
+    let numbered = Fields {
+        instance_id: zero,
+        epoch: Epoch(0),
+        sequence: Sequence(1),
+    };
+    there_and_back(record_type, numbered, payload, 80);
+}
+
+// Types 1 and 2; then a RESET whose fields are all zero, which the record layer accepts.
+pub fn identities() {
+    identity(RecordType::GuestAttach, b"");
+    identity(RecordType::HostAttach, &[0x33u8; 32]);
+    let zero = Fields {
+        instance_id: [0u8; 16],
+        epoch: Epoch(0),
+        sequence: Sequence(0),
+    };
+    there_and_back(RecordType::Reset, zero, b"", 80);
+}

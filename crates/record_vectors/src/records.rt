@@ -1,0 +1,124 @@
+// One record through the encoder and through a parser.
+use crate::answers;
+use parser::parser::RecordParser;
+use protocol::Epoch;
+use protocol::Sequence;
+use protocol::outer::Written;
+use protocol::outer::encode_header;
+use protocol::outer::put_record;
+use record::record::encode_record;
+use record::types::RecordType;
+ghost use mathlib.Core.Path.{_≡_};
+ghost use Prim.Native.Nat.{_≤_, min};
+
+// Instance, epoch and sequence of a record.
+pub struct Fields {
+    pub instance_id: [u8; 16],
+    pub epoch: Epoch,
+    pub sequence: Sequence,
+}
+
+// The fields that a record of a type may carry.
+pub fn fields_of(record_type: RecordType) -> Fields {
+    if record_type.is_bootstrap() {
+        return Fields {
+            instance_id: [0u8; 16],
+            epoch: Epoch(0),
+            sequence: Sequence(0),
+        };
+    }
+    Fields {
+        instance_id: [0x11u8; 16],
+        epoch: Epoch(7),
+        sequence: Sequence(1),
+    }
+}
+
+// The fields of a record, and a payload of four bytes.
+fn title(name: &[u8], record_type: RecordType, fields: Fields, payload: &[u8]) {
+    let instance_id = fields.instance_id;
+    print::text(name);
+    print::labelled(b" type ", record_type.code() as u64);
+    print::text(b" instance ");
+    print::hex(&instance_id);
+    print::labelled(b" epoch ", fields.epoch.0);
+    print::labelled(b" sequence ", fields.sequence.0);
+    print::labelled(b" length ", payload.len() as u64);
+    if payload.len() == 4 {
+        print::text(b" payload ");
+        print::hex(payload);
+    }
+}
+
+// A record to the encoder, then to a parser in pieces of `n` bytes.
+pub fn there_and_back(record_type: RecordType, fields: Fields, payload: &[u8], n: usize)
+    requires { ⌜ 1 ≤ n ⌝ }
+{
+    let mut output = [0u8; 65581];
+    let end = encoded(record_type, fields, payload, &mut output).next;
+    if end < 65582 {
+        title(b"push", record_type, fields, payload);
+        in_pieces(&output[0..end], n);
+    }
+}
+
+// What the encoder answers, on a line; and the record's bytes. Where the encoder refuses it, they
+// are put together unchecked.
+fn encoded(record_type: RecordType, fields: Fields, payload: &[u8], output: &mut [u8]) -> Written {
+    let instance_id = fields.instance_id;
+    let epoch = fields.epoch;
+    let sequence = fields.sequence;
+    title(b"encode_record", record_type, fields, payload);
+    print::text(b": ");
+    let written = encode_record(
+        record_type,
+        instance_id,
+        epoch,
+        sequence,
+        payload,
+        output,
+        0,
+    );
+    answers::written(written);
+    if written.refusal.number == 0 {
+        return written;
+    }
+    let length = length_of(payload);
+    let header = encode_header(record_type.code(), instance_id, epoch, sequence, length);
+    put_record(header, payload, output, 0)
+}
+
+// A payload's length as the header holds it.
+fn length_of(payload: &[u8]) -> u32 {
+    let n = payload.len();
+    if n < 4294967296 { n as u32 } else { 4294967295 }
+}
+
+fn least(a: usize, b: usize) -> usize
+    ensures { λ r. ⌜ r ≡ min a b ⌝ }
+{
+    if a < b { a } else { b }
+}
+
+// Bytes pushed to a new parser in pieces of `n`, until a record is complete or refused.
+pub fn in_pieces(bytes: &[u8], n: usize)
+    requires { ⌜ 1 ≤ n ⌝ }
+{
+    print::labelled(b" in pieces of ", n as u64);
+    print::text(b": ");
+    let mut stage = [0xAAu8; 65536];
+    let mut parser = RecordParser::new();
+    let mut taken: u64 = 0;
+    let mut at: usize = 0;
+    while at < bytes.len() {
+        let end = at + least(n, bytes.len() - at);
+        let pushed = parser.push(&bytes[at..end], &mut stage);
+        taken = std::num::wrapping_add_u64(taken, pushed.consumed as u64);
+        if pushed.complete || pushed.refusal.number != 0 || end == bytes.len() {
+            answers::pushed(pushed, taken, &bytes[at..end], &stage);
+            return;
+        }
+        parser = pushed.parser;
+        at = end;
+    }
+}
