@@ -1,5 +1,5 @@
 # make test: every check of the repository; its last line is that of rt ci.
-# make run:  prove and run the worked byte strings of the plain layer.
+# make run:  prove and run the worked examples of the plain layer and of records.
 .DEFAULT_GOAL := test
 .PHONY: test run rt-present differential-where-present
 MAKEFLAGS += --no-print-directory
@@ -13,8 +13,9 @@ test: rt-present
 	@rt ci
 
 run: rt-present
-	@rt check outer_vectors
+	@rt check outer_vectors record_vectors
 	@target/bin/outer_vectors
+	@target/bin/record_vectors
 
 rt-present:
 	@command -v rt >/dev/null || { echo 'rt, the command of the Rattle kit, is not on the PATH' >&2; exit 1; }

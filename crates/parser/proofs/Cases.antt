@@ -188,8 +188,6 @@ module _ (h : List ℕ) (size k : ℕ) (rest : List ℕ) (from : ℕ) (stage : L
         simp (le-ltb (k + bodyTaken h k rest) (lengthOf h) a, ne-eqb k 0 z)
         (λ j. outcome ((eu ∙ (λ i. finish h (e i) (from + taken i) Stage .answer)) j) (s j))
 
-pub ruleset stepping = (body-waits, body-piece, body-stage)
-
 -- what the parts that the code takes ask
 pub end-fits : (h : List ℕ) (size : ℕ) (st stage : List ℕ) → passes (headerChecks h) ≡ true → size ≡ lengthOf h → 65536 ≤ length stage → length st ≡ length stage → size ≤ length st
 end-fits h size st stage ok e room q = let low = length-low h ok in omega arith

@@ -1,9 +1,10 @@
 // What a call answers, and its bytes (tests/differential/FORMAT.md).
+use crate::frame::after;
 use protocol::bytes::copy_at;
 use protocol::bytes::u32_to_le_bytes;
 use protocol::bytes::u64_to_le_bytes;
 use protocol::refusal::Refusal;
-ghost use Prim.Native.Nat.{_+_, _≤_};
+ghost use Prim.Native.Nat.{_≤_};
 ghost use lib.ListN.{length};
 
 // Bytes of an answer's head.
@@ -41,7 +42,7 @@ pub struct Answer {
 }
 
 // No part.
-pub fn nothing() -> Part {
+pub(crate) fn nothing() -> Part {
     Part {
         source: 0,
         from: 0,
@@ -50,12 +51,12 @@ pub fn nothing() -> Part {
 }
 
 // No value.
-pub fn no_value() -> Ask {
+pub(crate) fn no_value() -> Ask {
     Ask { mark: 0, value: 0 }
 }
 
 // An answer with a refusal alone; the blank answer where its number is 0.
-pub fn refused(refusal: Refusal) -> Answer {
+pub(crate) fn refused(refusal: Refusal) -> Answer {
     Answer {
         refusal,
         event: 0,
@@ -74,119 +75,87 @@ pub fn refused(refusal: Refusal) -> Answer {
 }
 
 // The answer that says nothing.
-pub fn blank() -> Answer {
+pub(crate) fn blank() -> Answer {
     refused(Refusal::none())
 }
 
+// Stores four bytes.
+fn put_four(page: &mut [u8], at: usize, bytes: [u8; 4]) {
+    copy_at(page, at, &bytes);
+}
+
 // Stores a number of four bytes.
-pub fn put4(page: &mut [u8; 320], at: usize, value: u32)
-    requires { ⌜ at + 4 ≤ 320 ⌝ }
-{
-    let b = u32_to_le_bytes(value);
-    page[at] = b[0];
-    page[at + 1] = b[1];
-    page[at + 2] = b[2];
-    page[at + 3] = b[3];
+pub(crate) fn put4(page: &mut [u8], at: usize, value: u32) {
+    put_four(page, at, u32_to_le_bytes(value));
 }
 
 // Stores a number of eight bytes.
-pub fn put8(page: &mut [u8; 320], at: usize, value: u64)
-    requires { ⌜ at + 8 ≤ 320 ⌝ }
-{
+pub(crate) fn put8(page: &mut [u8], at: usize, value: u64) {
     let b = u64_to_le_bytes(value);
-    page[at] = b[0];
-    page[at + 1] = b[1];
-    page[at + 2] = b[2];
-    page[at + 3] = b[3];
-    page[at + 4] = b[4];
-    page[at + 5] = b[5];
-    page[at + 6] = b[6];
-    page[at + 7] = b[7];
+    copy_at(page, at, &b);
 }
 
 // Stores sixteen bytes.
-pub fn put16(page: &mut [u8; 320], at: usize, bytes: [u8; 16])
-    requires { ⌜ at + 16 ≤ 320 ⌝ }
-{
-    page[at] = bytes[0];
-    page[at + 1] = bytes[1];
-    page[at + 2] = bytes[2];
-    page[at + 3] = bytes[3];
-    page[at + 4] = bytes[4];
-    page[at + 5] = bytes[5];
-    page[at + 6] = bytes[6];
-    page[at + 7] = bytes[7];
-    page[at + 8] = bytes[8];
-    page[at + 9] = bytes[9];
-    page[at + 10] = bytes[10];
-    page[at + 11] = bytes[11];
-    page[at + 12] = bytes[12];
-    page[at + 13] = bytes[13];
-    page[at + 14] = bytes[14];
-    page[at + 15] = bytes[15];
-}
-
-// Stores a header's bytes.
-pub fn put_bytes44(page: &mut [u8; 320], at: usize, bytes: [u8; 44])
-    requires { ⌜ at + 44 ≤ 320 ⌝ }
-{
-    let mut i: usize = 0;
-    while i < 44 {
-        page[at + i] = bytes[i];
-        i += 1;
-    }
+pub(crate) fn put16(page: &mut [u8], at: usize, bytes: [u8; 16]) {
+    copy_at(page, at, &bytes);
 }
 
 // Stores a refusal's figures and fields: 56 bytes.
-pub fn put_figures(page: &mut [u8; 320], at: usize, refusal: Refusal)
-    requires { ⌜ at + 56 ≤ 320 ⌝ }
-{
+pub(crate) fn put_figures(page: &mut [u8], at: usize, refusal: Refusal) {
     let expected = refusal.expected;
     let actual = refusal.actual;
     put8(page, at, refusal.a);
-    put8(page, at + 8, refusal.b);
-    put8(page, at + 16, refusal.c);
-    put16(page, at + 24, expected);
-    put16(page, at + 40, actual);
+    put8(page, after(at, 8), refusal.b);
+    put8(page, after(at, 16), refusal.c);
+    put16(page, after(at, 24), expected);
+    put16(page, after(at, 40), actual);
 }
 
-// Stores three values that may be missing, and the record's type.
-fn put_asks(page: &mut [u8; 320], answer: Answer) {
+// Stores the marks of three values that may be missing, the record's type, and the values.
+fn put_asks(page: &mut [u8], answer: Answer) {
     let window = answer.window;
     let credit = answer.credit;
     let error = answer.error;
-    page[112] = window.mark;
-    page[113] = credit.mark;
-    page[114] = error.mark;
-    page[115] = answer.record_type;
+    let marks = [window.mark, credit.mark, error.mark, answer.record_type];
+    put_four(page, 112, marks);
     put4(page, 116, window.value);
     put4(page, 120, credit.value);
     put4(page, 124, error.value);
 }
 
 // The low four bytes of a count.
-pub fn number4(x: usize) -> u32 {
+pub(crate) fn number4(x: usize) -> u32 {
     (x % 4294967296) as u32
 }
 
-// Stores the answer's head. The state's bytes are there already, from byte 128 on.
-pub fn put_head(page: &mut [u8; 320], op: u8, answer: Answer, state: usize) {
+// Stores the head up to the refusal: bytes 0 to 63.
+fn put_refusal(page: &mut [u8], op: u8, answer: Answer, state: usize) {
     let payload = answer.payload;
     let written = answer.written;
     let refusal = answer.refusal;
-    let instance_id = answer.instance_id;
+    let first = [op, answer.event, answer.place, refusal.number];
     put4(page, 0, total(payload.count, written.count, state));
-    page[4] = op;
-    page[5] = answer.event;
-    page[6] = answer.place;
-    page[7] = refusal.number;
+    put_four(page, 4, first);
     put_figures(page, 8, refusal);
+}
+
+// Stores count, next, identity and the two lengths: bytes 64 to 111.
+fn put_numbers(page: &mut [u8], answer: Answer) {
+    let payload = answer.payload;
+    let written = answer.written;
+    let instance_id = answer.instance_id;
     put8(page, 64, answer.count);
     put8(page, 72, answer.next);
     put16(page, 80, instance_id);
     put8(page, 96, answer.epoch);
     put4(page, 104, number4(payload.count));
     put4(page, 108, number4(written.count));
+}
+
+// Stores the answer's head. The state's bytes are there already, from byte 128 on.
+pub(crate) fn put_head(page: &mut [u8], op: u8, answer: Answer, state: usize) {
+    put_refusal(page, op, answer, state);
+    put_numbers(page, answer);
     put_asks(page, answer);
 }
 
@@ -205,7 +174,7 @@ fn total(payload: usize, written: usize, state: usize) -> u32 {
 }
 
 // Appends bytes to the answers and gives the place after them; 0 where they do not fit.
-pub fn append(out: &mut [u8], at: usize, bytes: &[u8]) -> usize
+pub(crate) fn append(out: &mut [u8], at: usize, bytes: &[u8]) -> usize
     ensures { λ r. ⌜ r ≤ length (now (out .exit)) ⌝ }
 {
     if out.len() < at {

@@ -1,8 +1,8 @@
 // A call's frame, and parts of slices (tests/differential/FORMAT.md).
+use protocol::bytes::copy_at;
 use protocol::bytes::u32_from_le_bytes;
 use protocol::bytes::u64_from_le_bytes;
-ghost use Prim.Native.Nat.{_+_, _≤_};
-ghost use lib.ListN.{length};
+ghost use Prim.Native.Nat.{_≤_};
 
 // Bytes of a frame's head.
 pub const FRAME: usize = 24;
@@ -19,51 +19,30 @@ pub struct Frame {
     pub b: u64,
 }
 
-// A number of four bytes.
-fn four(s: &[u8], at: usize) -> u32
-    requires { ⌜ at + 4 ≤ length (now s) ⌝ }
-{
-    u32_from_le_bytes([s[at], s[at + 1], s[at + 2], s[at + 3]])
+// The byte at a place; 0 past the end.
+pub(crate) fn byte(s: &[u8], at: usize) -> u8 {
+    if at < s.len() { s[at] } else { 0 }
 }
 
-// A number of eight bytes.
-pub fn eight(s: &[u8], at: usize) -> u64
-    requires { ⌜ at + 8 ≤ length (now s) ⌝ }
-{
-    u64_from_le_bytes([
-        s[at],
-        s[at + 1],
-        s[at + 2],
-        s[at + 3],
-        s[at + 4],
-        s[at + 5],
-        s[at + 6],
-        s[at + 7],
-    ])
+// A number of four bytes; 0 where they do not fit.
+fn four(s: &[u8], at: usize) -> u32 {
+    let mut b = [0u8; 4];
+    copy_at(&mut b, 0, cut(s, at, 4));
+    u32_from_le_bytes(b)
 }
 
-// Sixteen bytes.
-pub fn sixteen(s: &[u8], at: usize) -> [u8; 16]
-    requires { ⌜ at + 16 ≤ length (now s) ⌝ }
-{
-    [
-        s[at],
-        s[at + 1],
-        s[at + 2],
-        s[at + 3],
-        s[at + 4],
-        s[at + 5],
-        s[at + 6],
-        s[at + 7],
-        s[at + 8],
-        s[at + 9],
-        s[at + 10],
-        s[at + 11],
-        s[at + 12],
-        s[at + 13],
-        s[at + 14],
-        s[at + 15],
-    ]
+// A number of eight bytes; 0 where they do not fit.
+pub(crate) fn eight(s: &[u8], at: usize) -> u64 {
+    let mut b = [0u8; 8];
+    copy_at(&mut b, 0, cut(s, at, 8));
+    u64_from_le_bytes(b)
+}
+
+// Sixteen bytes; zeros where they do not fit.
+pub(crate) fn sixteen(s: &[u8], at: usize) -> [u8; 16] {
+    let mut b = [0u8; 16];
+    copy_at(&mut b, 0, cut(s, at, 16));
+    b
 }
 
 fn wide(x: u32) -> usize {
@@ -71,31 +50,35 @@ fn wide(x: u32) -> usize {
 }
 
 // The head of the frame at a place.
-pub fn head(calls: &[u8], at: usize) -> Frame
-    requires { ⌜ at + 24 ≤ length (now calls) ⌝ }
-{
+pub(crate) fn head(calls: &[u8], at: usize) -> Frame {
+    let h = cut(calls, at, FRAME);
     Frame {
-        op: calls[at],
-        size: wide(four(calls, at + 4)),
-        a: eight(calls, at + 8),
-        b: eight(calls, at + 16),
+        op: byte(h, 0),
+        size: wide(four(h, 4)),
+        a: eight(h, 8),
+        b: eight(h, 16),
     }
 }
 
+// A place so many bytes further on.
+pub(crate) fn after(at: usize, count: usize) -> usize {
+    std::num::wrapping_add_usize(at, count)
+}
+
 // The low half of a figure.
-pub fn low(x: u64) -> u32 {
+pub(crate) fn low(x: u64) -> u32 {
     (x % 4294967296) as u32
 }
 
 // The length of the lent output or stage: an area at most.
-pub fn within(x: u64) -> usize
+pub(crate) fn within(x: u64) -> usize
     ensures { λ r. ⌜ r ≤ 65600 ⌝ }
 {
     if x < 65600 { x as usize } else { AREA }
 }
 
 // A part of a slice; empty where it does not fit.
-pub fn cut(s: &[u8], from: usize, count: usize) -> &[u8] {
+pub(crate) fn cut(s: &[u8], from: usize, count: usize) -> &[u8] {
     if s.len() < from {
         return &s[0..0];
     }

@@ -1,11 +1,14 @@
 // Runs blocks of calls on the port and writes what each answers, so that the answers can be held
 // to the Rust reference's (tests/differential/FORMAT.md). A layer of the port is a file here and
 // an arm of `call`.
-pub mod answer;
-pub mod frame;
-pub mod outer_calls;
-pub mod parser_calls;
-pub mod record_calls;
+mod answer;
+mod frame;
+mod guest_calls;
+mod host_calls;
+mod outer_calls;
+mod parser_calls;
+mod record_calls;
+mod session_calls;
 
 use crate::answer::Answer;
 use crate::answer::HEAD;
@@ -17,9 +20,10 @@ use crate::frame::AREA;
 use crate::frame::FRAME;
 use crate::frame::Frame;
 use crate::frame::cut;
+use guest::guest::GuestSession;
+use host::host::HostSession;
 use parser::parser::Place;
 use parser::parser::RecordParser;
-use parser::parser::payload;
 ghost use mathlib.Core.Path.{_≡_};
 ghost use Prim.Native.Nat.{_+_, _<_, _≤_};
 ghost use lib.ListN.{length};
@@ -36,6 +40,8 @@ pub const MEMORY: usize = 262400;
 // What the calls of a block act on, beside the memory.
 pub struct World {
     pub parser: RecordParser,
+    pub guest: GuestSession,
+    pub host: HostSession,
 }
 
 // The world after a call, and the answer.
@@ -54,6 +60,8 @@ pub struct Turn {
 fn fresh() -> World {
     World {
         parser: RecordParser::new(),
+        guest: GuestSession::new(),
+        host: HostSession::new(),
     }
 }
 
@@ -79,10 +87,52 @@ fn show(f: Frame) -> Answer {
 fn on_parser(w: World, f: Frame, input: &[u8], memory: &mut [u8]) -> Ran {
     let p = w.parser;
     let r = parser_calls::call(p, f, input, memory);
-    let next = r.parser;
+    let parser = r.parser;
+    let guest = w.guest;
+    let host = w.host;
     let answer = r.answer;
     Ran {
-        world: World { parser: next },
+        world: World {
+            parser,
+            guest,
+            host,
+        },
+        answer,
+    }
+}
+
+// A call on the guest.
+fn on_guest(w: World, f: Frame, input: &[u8], memory: &mut [u8]) -> Ran {
+    let g = w.guest;
+    let r = guest_calls::call(g, f, input, memory);
+    let parser = w.parser;
+    let guest = r.guest;
+    let host = w.host;
+    let answer = r.answer;
+    Ran {
+        world: World {
+            parser,
+            guest,
+            host,
+        },
+        answer,
+    }
+}
+
+// A call on the host.
+fn on_host(w: World, f: Frame, input: &[u8], memory: &mut [u8]) -> Ran {
+    let h = w.host;
+    let r = host_calls::call(h, f, input, memory);
+    let parser = w.parser;
+    let guest = w.guest;
+    let host = r.host;
+    let answer = r.answer;
+    Ran {
+        world: World {
+            parser,
+            guest,
+            host,
+        },
         answer,
     }
 }
@@ -97,6 +147,8 @@ fn call(w: World, f: Frame, input: &[u8], memory: &mut [u8]) -> Ran {
     let op = f.op;
     match op {
         1 => plain(fresh(), blank()),
+        10..=16 | 50 => on_guest(w, f, input, memory),
+        20..=26 | 51 => on_host(w, f, input, memory),
         30..=32 => on_parser(w, f, input, memory),
         40 | 47 | 48 => plain(w, record_calls::call(f, input, memory)),
         41..=46 => plain(w, outer_calls::call(f, input, memory)),
@@ -108,14 +160,23 @@ fn call(w: World, f: Frame, input: &[u8], memory: &mut [u8]) -> Ran {
 // How many bytes of state the answer of an operation shows.
 fn state_size(op: u8) -> usize {
     match op {
+        10..=16 | 20..=26 | 50 | 51 => 192,
         30..=32 => 120,
         _ => 0,
     }
 }
 
 // Stores the state that the answer of an operation shows, from byte 128 on.
-fn put_state(page: &mut [u8; 320], op: u8, w: World) {
+fn put_state(page: &mut [u8], op: u8, w: World) {
     match op {
+        10..=16 | 50 => {
+            let g = w.guest;
+            guest_calls::put_guest(page, g);
+        }
+        20..=26 | 51 => {
+            let h = w.host;
+            host_calls::put_host(page, h);
+        }
         30..=32 => {
             let p = w.parser;
             parser_calls::put_parser(page, 128, p);
@@ -124,40 +185,49 @@ fn put_state(page: &mut [u8; 320], op: u8, w: World) {
     }
 }
 
-// Appends a payload, as the port hands it over.
-fn append_payload<'a>(
-    out: &mut [u8],
-    o: usize,
-    place: Place,
-    count: usize,
-    input: &'a [u8],
-    stage: &'a [u8],
-) -> usize
-    ensures { λ r. ⌜ r ≤ length (now (out .exit)) ⌝ }
-{
-    append(out, o, payload(input, stage, place, count))
+// A payload, as the operation's layer hands it over.
+fn handed<'a>(op: u8, input: &'a [u8], stage: &'a [u8], place: Place, count: usize) -> &'a [u8] {
+    if op == 11 {
+        return guest::guest::payload(input, stage, place, count);
+    }
+    if op == 21 {
+        return host::host::payload(input, stage, place, count);
+    }
+    parser::parser::payload(input, stage, place, count)
 }
 
 // Appends a part of the input or of the memory.
-fn append_part<'a>(out: &mut [u8], o: usize, p: Part, input: &'a [u8], memory: &'a [u8]) -> usize
+fn append_part<'a>(
+    op: u8,
+    out: &mut [u8],
+    o: usize,
+    p: Part,
+    input: &'a [u8],
+    memory: &'a [u8],
+) -> usize
     ensures { λ r. ⌜ r ≤ length (now (out .exit)) ⌝ }
 {
     let stage = cut(memory, p.from, AREA);
     if p.source == 1 {
-        return append_payload(out, o, Place::Piece(p.from), p.count, input, stage);
+        return append(
+            out,
+            o,
+            handed(op, input, stage, Place::Piece(p.from), p.count),
+        );
     }
     if p.source == 2 {
         return append(out, o, cut(memory, p.from, p.count));
     }
     if p.source == 3 {
-        return append_payload(out, o, Place::Stage, p.count, input, stage);
+        return append(out, o, handed(op, input, stage, Place::Stage, p.count));
     }
     append(out, o, b"")
 }
 
 // Appends an answer: head, payload, written bytes, state.
 fn emit<'a>(
-    page: &[u8; 320],
+    op: u8,
+    page: &[u8],
     x: Answer,
     state: usize,
     input: &'a [u8],
@@ -170,8 +240,8 @@ fn emit<'a>(
     let payload = x.payload;
     let written = x.written;
     let o1 = append(out, o, cut(page, 0, HEAD));
-    let o2 = append_part(out, o1, payload, input, memory);
-    let o3 = append_part(out, o2, written, input, memory);
+    let o2 = append_part(op, out, o1, payload, input, memory);
+    let o3 = append_part(op, out, o2, written, input, memory);
     append(out, o3, cut(page, HEAD, state))
 }
 
@@ -192,7 +262,7 @@ fn answered<'a>(
     let state = state_size(op);
     put_state(&mut page, op, world);
     put_head(&mut page, op, answer, state);
-    emit(&page, answer, state, input, memory, out, o)
+    emit(op, &page, answer, state, input, memory, out, o)
 }
 
 // The end of the frames.

@@ -8,29 +8,32 @@ use crate::answer::nothing;
 use crate::answer::refused;
 use crate::frame::Frame;
 use crate::frame::OUTPUT;
+use crate::frame::after;
+use crate::frame::byte;
 use crate::frame::eight;
 use crate::frame::low;
 use crate::frame::sixteen;
 use crate::frame::within;
 use protocol::Epoch;
 use protocol::Sequence;
+use protocol::bytes::copy_at;
 use protocol::bytes::u32_from_le_bytes;
 use protocol::outer::DecodedHeader;
 use protocol::outer::DecodedPayload;
 use protocol::outer::EncodedPayload;
 use protocol::outer::Written;
-ghost use Prim.Native.Nat.{_+_, _≤_};
+ghost use Prim.Native.Nat.{_≤_};
 ghost use lib.ListN.{length};
 
 // The answer of an operation that writes at a position of the output.
-pub fn wrote(w: Written, at: usize, count: u64) -> Answer {
+pub(crate) fn wrote(w: Written, at: usize, count: u64) -> Answer {
     let mut answer = refused(w.refusal);
     if w.next <= at {
         return answer;
     }
     let written = Part {
         source: 2,
-        from: std::num::wrapping_add_usize(OUTPUT, at),
+        from: after(OUTPUT, at),
         count: w.next - at,
     };
     answer.count = count;
@@ -48,11 +51,9 @@ pub struct Fields {
 }
 
 // The fields of an encoder's input.
-pub fn encoder_fields(input: &[u8]) -> Fields
-    requires { ⌜ 33 ≤ length (now input) ⌝ }
-{
+pub(crate) fn encoder_fields(input: &[u8]) -> Fields {
     Fields {
-        record_type: input[0],
+        record_type: byte(input, 0),
         instance_id: sixteen(input, 1),
         epoch: Epoch(eight(input, 17)),
         sequence: Sequence(eight(input, 25)),
@@ -115,55 +116,10 @@ fn header(d: DecodedHeader) -> Answer {
 }
 
 // The 44 bytes of a header.
-fn bytes44(input: &[u8]) -> [u8; 44]
-    requires { ⌜ 44 ≤ length (now input) ⌝ }
-{
-    [
-        input[0],
-        input[1],
-        input[2],
-        input[3],
-        input[4],
-        input[5],
-        input[6],
-        input[7],
-        input[8],
-        input[9],
-        input[10],
-        input[11],
-        input[12],
-        input[13],
-        input[14],
-        input[15],
-        input[16],
-        input[17],
-        input[18],
-        input[19],
-        input[20],
-        input[21],
-        input[22],
-        input[23],
-        input[24],
-        input[25],
-        input[26],
-        input[27],
-        input[28],
-        input[29],
-        input[30],
-        input[31],
-        input[32],
-        input[33],
-        input[34],
-        input[35],
-        input[36],
-        input[37],
-        input[38],
-        input[39],
-        input[40],
-        input[41],
-        input[42],
-        input[43],
-    ]
+fn bytes44(input: &[u8]) -> [u8; 44] {
+    let mut b = [0u8; 44];
+    copy_at(&mut b, 0, input);
+    b
 }
 
 fn decode(input: &[u8]) -> Answer {
@@ -196,7 +152,7 @@ fn decoded(d: DecodedPayload) -> Answer {
     answer
 }
 
-pub fn call(f: Frame, input: &[u8], memory: &mut [u8]) -> Answer {
+pub(crate) fn call(f: Frame, input: &[u8], memory: &mut [u8]) -> Answer {
     let op = f.op;
     match op {
         41 => encode(f, input, memory),

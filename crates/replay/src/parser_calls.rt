@@ -3,13 +3,14 @@ use crate::answer::Answer;
 use crate::answer::Ask;
 use crate::answer::Part;
 use crate::answer::blank;
-use crate::answer::put_bytes44;
+use crate::answer::number4;
 use crate::answer::put_figures;
 use crate::answer::put4;
 use crate::answer::put8;
 use crate::answer::refused;
 use crate::frame::AREA;
 use crate::frame::Frame;
+use crate::frame::after;
 use crate::frame::cut;
 use crate::frame::within;
 use crate::record_calls::error_value;
@@ -17,9 +18,10 @@ use parser::parser::Place;
 use parser::parser::Pushed;
 use parser::parser::RecordParser;
 use parser::parser::payload;
+use protocol::bytes::copy_at;
 use record::record::Record;
 use record::record::Value;
-ghost use Prim.Native.Nat.{_+_, _≤_};
+ghost use Prim.Native.Nat.{_≤_};
 ghost use lib.ListN.{length};
 
 // Where the stage stands in the memory: its third area.
@@ -59,7 +61,7 @@ fn asked(record: Record, bytes: &[u8]) -> Answer {
 }
 
 // The part that the payload is, and the number of its place.
-pub fn placed(place: Place, stage: usize, count: usize) -> Part {
+pub(crate) fn placed(place: Place, stage: usize, count: usize) -> Part {
     match place {
         Place::Piece(at) => Part {
             source: 1,
@@ -75,7 +77,7 @@ pub fn placed(place: Place, stage: usize, count: usize) -> Part {
 }
 
 // The number of a place: 1 in the piece, 2 in the stage.
-pub fn place_number(place: Place) -> u8 {
+pub(crate) fn place_number(place: Place) -> u8 {
     match place {
         Place::Piece(_) => 1,
         Place::Stage => 2,
@@ -144,7 +146,7 @@ fn asks(p: RecordParser) -> Answer {
     answer
 }
 
-pub fn call(p: RecordParser, f: Frame, input: &[u8], memory: &mut [u8]) -> Ran {
+pub(crate) fn call(p: RecordParser, f: Frame, input: &[u8], memory: &mut [u8]) -> Ran {
     let op = f.op;
     match op {
         30 => push(p, f, input, memory),
@@ -160,14 +162,12 @@ pub fn call(p: RecordParser, f: Frame, input: &[u8], memory: &mut [u8]) -> Ran {
 }
 
 // Stores a parser's 120 bytes.
-pub fn put_parser(page: &mut [u8; 320], at: usize, p: RecordParser)
-    requires { ⌜ at + 120 ≤ 320 ⌝ }
-{
+pub(crate) fn put_parser(page: &mut [u8], at: usize, p: RecordParser) {
     let header = p.header;
     let error = p.error;
-    put_bytes44(page, at, header);
-    put4(page, at + 44, crate::answer::number4(p.header_len));
-    put8(page, at + 48, p.payload_len as u64);
-    put8(page, at + 56, error.number as u64);
-    put_figures(page, at + 64, error);
+    copy_at(page, at, &header);
+    put4(page, after(at, 44), number4(p.header_len));
+    put8(page, after(at, 48), p.payload_len as u64);
+    put8(page, after(at, 56), error.number as u64);
+    put_figures(page, after(at, 64), error);
 }

@@ -84,7 +84,7 @@ fn type_asks(f: Frame) -> Answer {
 }
 
 // The code that a lookup found.
-pub fn error_value(found: ErrorLookup) -> Ask {
+pub(crate) fn error_value(found: ErrorLookup) -> Ask {
     let ErrorLookup::Known(code) = found else {
         return Ask { mark: 0, value: 0 };
     };
@@ -101,7 +101,7 @@ fn error_asks(f: Frame) -> Answer {
     answer
 }
 
-pub fn call(f: Frame, input: &[u8], memory: &mut [u8]) -> Answer {
+pub(crate) fn call(f: Frame, input: &[u8], memory: &mut [u8]) -> Answer {
     let op = f.op;
     match op {
         40 => encode(f, input, memory),

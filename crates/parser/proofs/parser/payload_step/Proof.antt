@@ -1,5 +1,5 @@
--- `parser::parser::payload_step` meets its contract. The laws `stepping` have a case for each return: a payload still in progress, one that lies in the piece, and one that ends in the stage (`body-stage`). By `end-fits` the stage is long enough. Assumes nothing.
-use Rattle.parser.proofs.Cases.{stepping, body-stage, end-fits}
+-- `parser::parser::payload_step` meets its contract. Each return is a case of `pushBody`: a payload still in progress (`body-waits`), one that lies in the piece (`body-piece`), and one that ends in the stage (`body-stage`). By `end-fits` the stage is long enough. Assumes nothing.
+use Rattle.parser.proofs.Cases.{body-waits, body-piece, body-stage, end-fits}
 use borrow.Author.Needs.{needs}
 use Rattle.parser.proofs.parser.payload_step.Statement.{statement}
 use Rattle.parser.proofs.parser.payload_step.Tie as tie
@@ -44,7 +44,7 @@ same-length : tie.Need-same-length
 same-length c = search needs
 
 returns : tie.Need-returns
-returns c = search stepping
+returns c = search body-waits
 
 sub-finished : tie.Need-sub-finished
 sub-finished c = search needs
@@ -62,7 +62,7 @@ finished-requires : tie.Need-finished-requires
 finished-requires c κs = search needs
 
 returns-2 : tie.Need-returns-2
-returns-2 c = search stepping
+returns-2 c = search body-piece
 
 sub-copy-at-2 : tie.Need-sub-copy-at-2
 sub-copy-at-2 c = search needs
