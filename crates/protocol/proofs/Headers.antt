@@ -1,28 +1,56 @@
 -- A header's 44 bytes: as the code builds them, and that they are the encoding of the fields read from them. Assumes nothing.
 use Prim.Native.Nat.{ℕ, zero, suc, _+_, _≤_, _<_}
-use mathlib.Core.Path.{_≡_, refl, sym, ap, subst, _∙_}
-use mathlib.Core.List.{List, [], _∷_, _++_}
+use mathlib.Core.Path.{_≡_, refl, sym, ap, ap₂, subst, _∙_}
+use mathlib.Core.List.{List, [], _∷_, _++_, append-assoc, append-nil}
 use native.Mathlib.Omega.{arith}
-use lib.ListN.{length, length-append}
+use lib.ListN.{length, length-append, drop-of-length-le}
 use lib.Dec.{lit<}
-use Rattle.protocol.specs.Bytes.{fromLe, toLe, bytesAt, Octets, end, octet}
+use Rattle.protocol.specs.Bytes.{fromLe, toLe, bytesAt, overlay, copied, Octets, end, octet}
 use Rattle.protocol.specs.Header.{magic, magicOf, versionOf, typeOf, flagsOf, instanceOf, epochOf, sequenceOf, lengthOf, headerBytes}
 use Rattle.protocol.proofs.Numbers.{at-whole, at-octets, length-at, length-to, to-from}
+use Rattle.protocol.proofs.Overlays.{length-overlay, overlay-next, copied-fits}
 
-written : (n v : ℕ) (l : List ℕ) → l ≡ toLe n v → bytesAt 0 n l ≡ toLe n v
-written n v l e = at-whole n l (ap length e ∙ length-to n v) ∙ e
+-- one more part copied behind the parts that stand there
+part-copied : (d a b h g : List ℕ) (at : ℕ) → length a ≡ at → at + length b ≤ length d → h ≡ overlay d 0 a → g ≡ copied h at b → g ≡ overlay d 0 (a ++ b)
+part-copied d a b h g at la room eh eg =
+    let lh : length h ≡ length d = ap length eh ∙ length-overlay d 0 a (omega (arith, la, room)) in
+    eg
+    ∙ copied-fits h at b (omega (arith, lh, room))
+    ∙ ap₂ (λ (x : List ℕ) (k : ℕ). overlay x k b) eh (omega (arith, la))
+    ∙ overlay-next d 0 a b (simp length-append (omega (arith, la, room)))
 
-pub header-list : (t : ℕ) (v i e s n : List ℕ) (epoch seq size : ℕ) → length i ≡ 16
+-- a list laid over one of its own length
+overlay-whole : (d s : List ℕ) → length s ≡ length d → overlay d 0 s ≡ s
+unfolding overlay
+overlay-whole d s e = ap (λ (x : List ℕ). s ++ x) (drop-of-length-le d {i = 0 + length s} (omega (arith, e))) ∙ append-nil s
+
+-- the parts of a header copied one behind the other
+pub header-copied : (t : ℕ) (d i v e s n h₀ h₁ h₂ h₃ h₄ h₅ h₆ : List ℕ) (epoch seq size : ℕ) → length d ≡ 44 → length i ≡ 16
     → v ≡ toLe 2 1 → e ≡ toLe 8 epoch → s ≡ toLe 8 seq → n ≡ toLe 4 size
-    → magic ++ (bytesAt 0 2 v ++ (t ∷ 0 ∷ (bytesAt 0 16 i ++ (bytesAt 0 8 e ++ (bytesAt 0 8 s ++ bytesAt 0 4 n))))) ≡ headerBytes t i epoch seq size
+    → h₀ ≡ copied d 0 magic → h₁ ≡ copied h₀ 4 v → h₂ ≡ copied h₁ 6 (t ∷ 0 ∷ []) → h₃ ≡ copied h₂ 8 i → h₄ ≡ copied h₃ 24 e → h₅ ≡ copied h₄ 32 s → h₆ ≡ copied h₅ 40 n
+    → h₆ ≡ headerBytes t i epoch seq size
 unfolding headerBytes
-header-list t v i e s n epoch seq size li ev ee es en =
-    let a = written 2 1 v ev in
-    let b = at-whole 16 i li in
-    let x = written 8 epoch e ee in
-    let y = written 8 seq s es in
-    let z = written 4 size n en in
-    λ j. magic ++ (a j ++ (t ∷ 0 ∷ (b j ++ (x j ++ (y j ++ z j)))))
+header-copied t d i v e s n h₀ h₁ h₂ h₃ h₄ h₅ h₆ epoch seq size ld li ev ee es en c₀ c₁ c₂ c₃ c₄ c₅ c₆ =
+    let lv : length v ≡ 2 = ap length ev ∙ length-to 2 1 in
+    let le : length e ≡ 8 = ap length ee ∙ length-to 8 epoch in
+    let ls : length s ≡ 8 = ap length es ∙ length-to 8 seq in
+    let ln : length n ≡ 4 = ap length en ∙ length-to 4 size in
+    let kind : List ℕ = t ∷ 0 ∷ [] in
+    let p₀ : h₀ ≡ overlay d 0 magic = c₀ ∙ copied-fits d 0 magic (omega (arith, ld)) in
+    let l₁ : length (magic ++ v) ≡ 6 = simp length-append (omega (arith, lv)) in
+    let p₁ = part-copied d magic v h₀ h₁ 4 refl (omega (arith, ld, lv)) p₀ c₁ in
+    let l₂ : length ((magic ++ v) ++ kind) ≡ 8 = length-append (magic ++ v) kind ∙ ap (λ (k : ℕ). k + 2) l₁ in
+    let p₂ = part-copied d (magic ++ v) kind h₁ h₂ 6 l₁ (omega (arith, ld)) p₁ c₂ in
+    let l₃ : length (((magic ++ v) ++ kind) ++ i) ≡ 24 = length-append ((magic ++ v) ++ kind) i ∙ ap₂ (λ (k m : ℕ). k + m) l₂ li in
+    let p₃ = part-copied d ((magic ++ v) ++ kind) i h₂ h₃ 8 l₂ (omega (arith, ld, li)) p₂ c₃ in
+    let l₄ : length ((((magic ++ v) ++ kind) ++ i) ++ e) ≡ 32 = length-append (((magic ++ v) ++ kind) ++ i) e ∙ ap₂ (λ (k m : ℕ). k + m) l₃ le in
+    let p₄ = part-copied d (((magic ++ v) ++ kind) ++ i) e h₃ h₄ 24 l₃ (omega (arith, ld, le)) p₃ c₄ in
+    let l₅ : length (((((magic ++ v) ++ kind) ++ i) ++ e) ++ s) ≡ 40 = length-append ((((magic ++ v) ++ kind) ++ i) ++ e) s ∙ ap₂ (λ (k m : ℕ). k + m) l₄ ls in
+    let p₅ = part-copied d ((((magic ++ v) ++ kind) ++ i) ++ e) s h₄ h₅ 32 l₄ (omega (arith, ld, ls)) p₄ c₅ in
+    let l₆ : length ((((((magic ++ v) ++ kind) ++ i) ++ e) ++ s) ++ n) ≡ 44 = length-append (((((magic ++ v) ++ kind) ++ i) ++ e) ++ s) n ∙ ap₂ (λ (k m : ℕ). k + m) l₅ ln in
+    let p₆ = part-copied d (((((magic ++ v) ++ kind) ++ i) ++ e) ++ s) n h₅ h₆ 40 l₅ (omega (arith, ld, ln)) p₅ c₆ in
+    let joined : ((((((magic ++ v) ++ kind) ++ i) ++ e) ++ s) ++ n) ≡ magic ++ (v ++ (kind ++ (i ++ (e ++ (s ++ n))))) = simp append-assoc in
+    p₆ ∙ overlay-whole d _ (l₆ ∙ sym ld) ∙ joined ∙ (λ j. magic ++ (ev j ++ (t ∷ 0 ∷ (i ++ (ee j ++ (es j ++ en j))))))
 
 pub header-length : (t : ℕ) (i : List ℕ) (e s n : ℕ) → length i ≡ 16 → length (headerBytes t i e s n) ≡ 44
 unfolding headerBytes

@@ -72,58 +72,21 @@ pub fn encode_header(
 ) -> [u8; 44]
     ensures { λ r. ⌜ r ≡ headerBytes «record_type» «instance_id» (epoch .0) (sequence .0) length ⌝ }
 {
-    let m = OUTER_MAGIC;
-    let v = u16_to_le_bytes(OUTER_VERSION);
-    let i = instance_id;
-    let e = u64_to_le_bytes(epoch.0);
-    let s = u64_to_le_bytes(sequence.0);
-    let n = u32_to_le_bytes(length);
-    [
-        m[0],
-        m[1],
-        m[2],
-        m[3],
-        v[0],
-        v[1],
-        record_type,
-        0,
-        i[0],
-        i[1],
-        i[2],
-        i[3],
-        i[4],
-        i[5],
-        i[6],
-        i[7],
-        i[8],
-        i[9],
-        i[10],
-        i[11],
-        i[12],
-        i[13],
-        i[14],
-        i[15],
-        e[0],
-        e[1],
-        e[2],
-        e[3],
-        e[4],
-        e[5],
-        e[6],
-        e[7],
-        s[0],
-        s[1],
-        s[2],
-        s[3],
-        s[4],
-        s[5],
-        s[6],
-        s[7],
-        n[0],
-        n[1],
-        n[2],
-        n[3],
-    ]
+    let magic = OUTER_MAGIC;
+    let version = u16_to_le_bytes(OUTER_VERSION);
+    let type_and_flags = [record_type, 0];
+    let epoch_bytes = u64_to_le_bytes(epoch.0);
+    let sequence_bytes = u64_to_le_bytes(sequence.0);
+    let length_bytes = u32_to_le_bytes(length);
+    let mut header = [0u8; 44];
+    copy_at(&mut header, 0, &magic);
+    copy_at(&mut header, 4, &version);
+    copy_at(&mut header, 6, &type_and_flags);
+    copy_at(&mut header, 8, &instance_id);
+    copy_at(&mut header, 24, &epoch_bytes);
+    copy_at(&mut header, 32, &sequence_bytes);
+    copy_at(&mut header, 40, &length_bytes);
+    header
 }
 
 // Nothing is written.
