@@ -8,9 +8,9 @@ use native.Mathlib.Omega.{arith}
 use lib.ListN.{length, take, length-append, length-take}
 use lib.Dec.{eqb}
 use borrow.Author.Tests.{eq-eqb}
-use Rattle.protocol.specs.Refusals.{pick, passes}
-use Rattle.protocol.specs.Header.{headerBytes}
-use Rattle.protocol.specs.declared.refusal.Refusal.{Refusal}
+use Rattle.wire.specs.Refusals.{pick, passes}
+use Rattle.wire.specs.Header.{headerBytes}
+use Rattle.wire.specs.declared.refusal.Refusal.{Refusal}
 use Rattle.record.specs.Types.{codeOf}
 use Rattle.record.specs.Record.{recordOf}
 use Rattle.parser.specs.Push.{Push, push, headWith, pushStage, pushOf, heldIn, fresh}

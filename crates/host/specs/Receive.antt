@@ -5,9 +5,9 @@ use mathlib.Core.Bool.{Bool, true, not, _&&_, _||_}
 use mathlib.Core.List.{List, [], _∷_, _++_}
 use lib.ListN.{length}
 use lib.Dec.{eqb, leb}
-use Rattle.protocol.specs.Refusals.{pick, refusal, none, first, passes}
+use Rattle.wire.specs.Refusals.{pick, refusal, none, first, passes}
 use Rattle.protocol.specs.Outer.{maxPayload}
-use Rattle.protocol.specs.declared.refusal.Refusal.{Refusal}
+use Rattle.wire.specs.declared.refusal.Refusal.{Refusal}
 use Rattle.record.specs.Types.{codeOf}
 use Rattle.record.specs.declared.types.RecordType.{RecordType}
 use Rattle.record.specs.declared.types.RecordType.the-variants as Kind

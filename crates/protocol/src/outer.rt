@@ -1,17 +1,17 @@
 // Outer records (magic `NVXS`): the port of outer.rs. A record is a 44-byte header and a payload.
-use crate::Epoch;
-use crate::Sequence;
-use crate::bytes::copy_at;
-use crate::bytes::u16_to_le_bytes;
-use crate::bytes::u32_from_le_bytes;
-use crate::bytes::u32_to_le_bytes;
-use crate::bytes::u64_to_le_bytes;
-use crate::fields;
-use crate::refusal::Refusal;
+use wire::Epoch;
+use wire::Sequence;
+use wire::bytes::copy_at;
+use wire::bytes::u16_to_le_bytes;
+use wire::bytes::u32_from_le_bytes;
+use wire::bytes::u32_to_le_bytes;
+use wire::bytes::u64_to_le_bytes;
+use wire::fields;
+use wire::refusal::Refusal;
 ghost use mathlib.Core.Path.{_≡_};
 ghost use Prim.Native.Nat.{_+_, _≤_};
 ghost use lib.ListN.{length};
-ghost use Rattle.protocol.specs.Header.{headerBytes};
+ghost use Rattle.wire.specs.Header.{headerBytes};
 ghost use Rattle.protocol.specs.Outer.{outcome, notWritten, putRecord, encodeOuter, outerOk, headerOf, refusedHeader, decodeOuterHeader, windowOk, creditOk, valueOf, acceptedEncoding, refusedEncoding, acceptedDecoding, refusedDecoding, encodeAckPayload, decodeAckPayload, encodeCreditPayload, decodeCreditPayload};
 
 // Magic of every outer record.

@@ -7,16 +7,16 @@ use native.Mathlib.Omega.{arith}
 use lib.ListN.{length, length-append}
 use lib.Dec.{eqb, leb}
 use borrow.Author.Tests.{le-leb, lt-leb, eq-eqb, ne-eqb, eqb-true, eqb-false, leb-true, not-true, not-false}
-use Rattle.protocol.specs.Bytes.{fromLe}
-use Rattle.protocol.specs.Refusals.{pick, refusal, none, first, passes}
-use Rattle.protocol.specs.Header.{magic, magicOf, versionOf, typeOf, flagsOf, instanceOf, epochOf, sequenceOf, lengthOf, headerBytes}
+use Rattle.wire.specs.Bytes.{fromLe}
+use Rattle.wire.specs.Refusals.{pick, refusal, none, first, passes}
+use Rattle.wire.specs.Header.{magic, magicOf, versionOf, typeOf, flagsOf, instanceOf, epochOf, sequenceOf, lengthOf, headerBytes}
 use Rattle.protocol.specs.Outer.{maxPayload, windowOk, creditOk, valueOf, outcome, write, roomRow, putRecord}
-use Rattle.protocol.specs.declared.Epoch.{Epoch}
-use Rattle.protocol.specs.declared.Sequence.{Sequence}
-use Rattle.protocol.specs.declared.refusal.Refusal.{Refusal}
+use Rattle.wire.specs.declared.Epoch.{Epoch}
+use Rattle.wire.specs.declared.Sequence.{Sequence}
+use Rattle.wire.specs.declared.refusal.Refusal.{Refusal}
 use Rattle.protocol.specs.declared.outer.Written.{Written}
-use Rattle.protocol.proofs.Rows.{picked, passed, and-right, no-rows, row-stops, row-passes, rows-stop, rows-pass}
-use Rattle.protocol.proofs.Headers.{header-length}
+use Rattle.wire.proofs.Rows.{picked, passed, and-right, no-rows, row-stops, row-passes, rows-stop, rows-pass}
+use Rattle.wire.proofs.Headers.{header-length}
 use Rattle.record.specs.Types.{codeOf, typeAt, typeOk, bootstrap, lengthOk, errorOf, errorAt}
 use Rattle.record.specs.Record.{allZero, lengthRow, bootstrapRow, payloadRows, payloadChecks, restRows, headerRows, headerChecks, typeFrom, recordWith, recordOf, noRecord, parseHeader}
 use Rattle.record.specs.Record.{recordRows, encodeRows, recordBytes, encodeRecord, noValue, valueIn, errorIn}

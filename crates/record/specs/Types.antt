@@ -2,7 +2,7 @@
 use Prim.Native.Nat.{ℕ}
 use mathlib.Core.Bool.{Bool, _&&_, _||_}
 use lib.Dec.{eqb, leb}
-use Rattle.protocol.specs.Refusals.{pick}
+use Rattle.wire.specs.Refusals.{pick}
 use Rattle.protocol.specs.Outer.{maxPayload}
 use Rattle.record.specs.declared.types.RecordType.{RecordType}
 use Rattle.record.specs.declared.types.RecordType.the-variants.{GuestAttach, HostAttach, Reset, Ack, Data, Wait, Ready, Error, Credit}

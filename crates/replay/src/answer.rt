@@ -1,9 +1,9 @@
 // What a call answers, and its bytes (tests/differential/FORMAT.md).
 use crate::frame::after;
-use protocol::bytes::copy_at;
-use protocol::bytes::u32_to_le_bytes;
-use protocol::bytes::u64_to_le_bytes;
-use protocol::refusal::Refusal;
+use wire::bytes::copy_at;
+use wire::bytes::u32_to_le_bytes;
+use wire::bytes::u64_to_le_bytes;
+use wire::refusal::Refusal;
 ghost use Prim.Native.Nat.{_≤_};
 ghost use lib.ListN.{length};
 

@@ -1,7 +1,7 @@
 // A call's frame, and parts of slices (tests/differential/FORMAT.md).
-use protocol::bytes::copy_at;
-use protocol::bytes::u32_from_le_bytes;
-use protocol::bytes::u64_from_le_bytes;
+use wire::bytes::copy_at;
+use wire::bytes::u32_from_le_bytes;
+use wire::bytes::u64_from_le_bytes;
 ghost use Prim.Native.Nat.{_≤_};
 
 // Bytes of a frame's head.

@@ -20,7 +20,7 @@ use guest::guest::GuestState;
 use guest::guest::Received;
 use guest::guest::Sent;
 use guest::guest::WindowAnswer;
-use protocol::Sequence;
+use wire::Sequence;
 ghost use Prim.Native.Nat.{_≤_};
 ghost use lib.ListN.{length};
 

@@ -18,8 +18,8 @@ use host::host::HostSession;
 use host::host::HostState;
 use host::host::Received;
 use host::host::Sent;
-use protocol::Sequence;
-use protocol::bytes::copy_at;
+use wire::Sequence;
+use wire::bytes::copy_at;
 ghost use Prim.Native.Nat.{_≤_};
 ghost use lib.ListN.{length};
 

@@ -14,14 +14,14 @@ use crate::frame::eight;
 use crate::frame::low;
 use crate::frame::sixteen;
 use crate::frame::within;
-use protocol::Epoch;
-use protocol::Sequence;
-use protocol::bytes::copy_at;
-use protocol::bytes::u32_from_le_bytes;
 use protocol::outer::DecodedHeader;
 use protocol::outer::DecodedPayload;
 use protocol::outer::EncodedPayload;
 use protocol::outer::Written;
+use wire::Epoch;
+use wire::Sequence;
+use wire::bytes::copy_at;
+use wire::bytes::u32_from_le_bytes;
 ghost use Prim.Native.Nat.{_≤_};
 ghost use lib.ListN.{length};
 

@@ -18,9 +18,9 @@ use parser::parser::Place;
 use parser::parser::Pushed;
 use parser::parser::RecordParser;
 use parser::parser::payload;
-use protocol::bytes::copy_at;
 use record::record::Record;
 use record::record::Value;
+use wire::bytes::copy_at;
 ghost use Prim.Native.Nat.{_≤_};
 ghost use lib.ListN.{length};
 

@@ -10,11 +10,11 @@ use crate::parser_calls::placed;
 use crate::parser_calls::put_parser;
 use parser::parser::Place;
 use parser::parser::RecordParser;
-use protocol::Sequence;
 use protocol::outer::Written;
-use protocol::refusal::Refusal;
 use session::session::Identity;
 use session::session::OptionalIdentity;
+use wire::Sequence;
+use wire::refusal::Refusal;
 
 // What a receive answers, whichever session it is: the event's number, and the number of the event
 // that hands out bytes.

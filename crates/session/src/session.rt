@@ -1,17 +1,17 @@
 // Identities, the shared checks, and the encoders of the next record of a direction.
-use protocol::Epoch;
-use protocol::Sequence;
 use protocol::outer::OUTER_MAX_PAYLOAD;
-use protocol::refusal::Refusal;
 use record::record::Record;
 use record::record::all_zero;
 use record::record::encode_record;
 use record::types::RecordType;
+use wire::Epoch;
+use wire::Sequence;
+use wire::refusal::Refusal;
 ghost use mathlib.Core.Path.{_≡_};
 ghost use mathlib.Core.List.{[], _∷_};
 ghost use Prim.Native.Nat.{min};
 ghost use lib.ListN.{length};
-ghost use Rattle.protocol.specs.Refusals.{first};
+ghost use Rattle.wire.specs.Refusals.{first};
 ghost use Rattle.record.specs.Types.{codeOf};
 ghost use Rattle.session.specs.Checks.{same, noIdentity, identityOk, holds, shown, recordIdentity, nextSequence, sequenceRow, otherInstance, instanceRow, epochRow};
 ghost use Rattle.session.specs.Writes.{outcome, notEncoded, encodeNext, encodeData};

@@ -1,5 +1,5 @@
 -- `protocol::outer::encode_header` meets its contract: the parts of the header are copied one behind the other (`header-copied`). Assumes nothing.
-use Rattle.protocol.proofs.Headers.{header-copied}
+use Rattle.wire.proofs.Headers.{header-copied}
 use mathlib.Core.Path.{sym}
 use borrow.Author.Needs.{needs}
 use Rattle.protocol.proofs.outer.encode_header.Statement.{statement}
