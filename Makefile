@@ -9,8 +9,7 @@ test: rt-present
 	@rt fmt --check
 	@echo 'fmt: every file is in the layout'
 	@tests/types/run
-	@$(MAKE) differential-where-present
-	@rt ci
+	@tests/ci
 
 run: rt-present
 	@rt check outer_vectors record_vectors
