@@ -15,6 +15,7 @@ use session::session::check_identity;
 use session::session::check_sequence;
 use session::session::encode_data;
 use session::session::encode_next;
+use session::session::identity_in;
 use session::session::next_sequence;
 use session::session::no_identity;
 use session::session::record_identity;
@@ -239,15 +240,6 @@ fn is_stale(current: OptionalIdentity, actual: Identity) -> bool
     let current_epoch = identity.epoch;
     let actual_epoch = actual.epoch;
     actual_epoch.0 <= current_epoch.0
-}
-
-// The identity that a record's fields make.
-fn identity_in(record: Record) -> Identity
-    ensures { λ r. ⌜ r ≡ checks.identityOf «record» ⌝ }
-{
-    let instance_id = record.instance_id;
-    let epoch = record.epoch;
-    Identity { instance_id, epoch }
 }
 
 // What stops a RESET: 11, 14, 16.

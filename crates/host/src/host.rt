@@ -14,6 +14,7 @@ use session::session::check_identity;
 use session::session::check_instance;
 use session::session::check_sequence;
 use session::session::encode_data;
+use session::session::identity_in;
 use session::session::is_identity;
 use session::session::next_sequence;
 use session::session::no_identity;
@@ -240,15 +241,6 @@ fn fail(session: HostSession, parser: RecordParser, refusal: Refusal) -> Receive
     ensures { λ r. ⌜ r ≡ refused refusal (withState session State.Failed parser) ⌝ }
 {
     refuse(with_state(session, HostState::Failed, parser), refusal)
-}
-
-// The identity that a record's fields make.
-fn identity_in(record: Record) -> Identity
-    ensures { λ r. ⌜ r ≡ checks.identityOf «record» ⌝ }
-{
-    let instance_id = record.instance_id;
-    let epoch = record.epoch;
-    Identity { instance_id, epoch }
 }
 
 // What stops a record by its type and sequence: 10, 15, 16.

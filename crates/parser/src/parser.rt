@@ -8,12 +8,13 @@ use record::record::check_payload;
 use record::record::no_record;
 use record::record::record_of;
 use wire::bytes::copy_at;
+use wire::bytes::least;
 use wire::fields;
 use wire::refusal::Refusal;
 ghost use mathlib.Core.Path.{_≡_};
 ghost use mathlib.Core.Bool.{Bool, true};
 ghost use mathlib.Core.List.{[]};
-ghost use Prim.Native.Nat.{_+_, _^_, _≤_, _<_, min};
+ghost use Prim.Native.Nat.{_+_, _^_, _≤_, _<_};
 ghost use lib.ListN.{length, take, drop};
 ghost use Rattle.wire.specs.Bytes.{overlay};
 ghost use Rattle.wire.specs.Refusals.{passes};
@@ -50,12 +51,6 @@ pub struct Pushed {
 pub struct Count {
     pub refusal: Refusal,
     pub count: usize,
-}
-
-fn least(a: usize, b: usize) -> usize
-    ensures { λ r. ⌜ r ≡ min a b ⌝ }
-{
-    if a < b { a } else { b }
 }
 
 // Whether the counts fit the header bytes.

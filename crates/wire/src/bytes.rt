@@ -1,6 +1,6 @@
-// Little-endian numbers of fixed width, and a copy into a lent slice.
+// Little-endian numbers of fixed width, a copy into a lent slice, and the smaller of two lengths.
 ghost use mathlib.Core.Path.{_≡_};
-ghost use Prim.Native.Nat.{_+_, _<_, _≤_};
+ghost use Prim.Native.Nat.{_+_, _<_, _≤_, min};
 ghost use lib.ListN.{length};
 ghost use Rattle.wire.specs.Bytes.{fromLe, toLe, overlay, copied};
 
@@ -110,4 +110,11 @@ pub fn copy_at(target: &mut [u8], at: usize, source: &[u8])
         return;
     }
     copy(target, at, source);
+}
+
+// The smaller of two lengths.
+pub fn least(a: usize, b: usize) -> usize
+    ensures { λ r. ⌜ r ≡ min a b ⌝ }
+{
+    if a < b { a } else { b }
 }
