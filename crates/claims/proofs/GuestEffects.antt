@@ -13,7 +13,7 @@ use Rattle.wire.specs.Refusals.{refusal, none, first, passes}
 use Rattle.protocol.specs.Outer.{maxPayload, windowOk}
 use Rattle.wire.specs.declared.refusal.Refusal.{Refusal}
 use Rattle.wire.proofs.Rows.{Passed, Numbered, passed, picked, and-left, and-right}
-use Rattle.record.specs.Types.{codeOf}
+use Rattle.types.specs.Types.{codeOf}
 use Rattle.parser.specs.Push.{Push, push, pushStage, headWith, heldIn, bufferedOf}
 use Rattle.parser.specs.declared.parser.Place.the-variants.{Piece}
 use Rattle.session.specs.Checks.{noIdentity, identityOf}

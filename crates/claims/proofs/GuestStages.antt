@@ -10,7 +10,7 @@ use Rattle.wire.specs.Refusals.{refusal, first, passes}
 use Rattle.protocol.specs.Outer.{maxPayload}
 use Rattle.wire.specs.declared.refusal.Refusal.{Refusal}
 use Rattle.wire.proofs.Rows.{passed, picked}
-use Rattle.record.specs.Types.{codeOf}
+use Rattle.types.specs.Types.{codeOf}
 use Rattle.parser.specs.Push.{Push, push, pushStage, heldIn, payloadAt}
 use Rattle.guest.specs.Receive as R
 use Rattle.guest.specs.declared.guest.GuestSession.{GuestSession}

@@ -13,7 +13,7 @@ use borrow.Author.Tests.{eqb-true, ltb-true}
 use Rattle.wire.specs.Bytes.{Octets}
 use Rattle.wire.specs.Header.{typeOf, instanceOf, epochOf, sequenceOf, lengthOf}
 use Rattle.wire.proofs.Rows.{Passed, and-left, and-right}
-use Rattle.record.specs.Types.{codeOf, lengthOk}
+use Rattle.types.specs.Types.{codeOf, lengthOk}
 use Rattle.record.specs.Record.{recordBytes, recordWith}
 use Rattle.record.specs.declared.record.Record.{Record}
 use Rattle.parser.specs.Push.{Push, pushStage, heldIn}

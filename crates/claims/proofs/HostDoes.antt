@@ -11,8 +11,8 @@ use lib.Dec.{leb}
 use Rattle.wire.specs.Refusals.{first, passes}
 use Rattle.wire.specs.declared.refusal.Refusal.{Refusal}
 use Rattle.wire.proofs.Rows.{picked, passed, and-right}
-use Rattle.record.specs.declared.types.RecordType.{RecordType}
-use Rattle.record.specs.declared.types.RecordType.the-variants as Kind
+use Rattle.types.specs.declared.RecordType.{RecordType}
+use Rattle.types.specs.declared.RecordType.the-variants as Kind
 use Rattle.parser.specs.Push.{Push, push, pushStage, heldIn, headWith, payloadAt}
 use Rattle.wire.specs.declared.Sequence.{Sequence}
 use Rattle.session.specs.declared.session.OptionalIdentity.{OptionalIdentity}

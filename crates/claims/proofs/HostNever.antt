@@ -12,10 +12,10 @@ use Rattle.wire.specs.Refusals.{refusal, first, passes}
 use Rattle.wire.specs.Header.{typeOf, lengthOf}
 use Rattle.wire.specs.declared.refusal.Refusal.{Refusal}
 use Rattle.wire.proofs.Rows.{picked, and-left, and-right}
-use Rattle.record.specs.Types.{codeOf}
+use Rattle.types.specs.Types.{codeOf}
 use Rattle.record.specs.Record.{headerChecks, payloadChecks}
-use Rattle.record.specs.declared.types.RecordType.{RecordType}
-use Rattle.record.specs.declared.types.RecordType.the-variants as Kind
+use Rattle.types.specs.declared.RecordType.{RecordType}
+use Rattle.types.specs.declared.RecordType.the-variants as Kind
 use Rattle.record.specs.declared.record.Record.{Record}
 use Rattle.parser.specs.Push.{countsOk, errorOk, soundParser, Push, finish, bodyTaken, pushBody, headTaken, headWith, pushHead, pushRows, push, heldIn, bufferedOf}
 use Rattle.parser.specs.declared.parser.RecordParser.{RecordParser}

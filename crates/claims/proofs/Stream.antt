@@ -14,7 +14,7 @@ use Rattle.wire.specs.Header.{typeOf, lengthOf}
 use Rattle.protocol.specs.Outer.{outcome, write}
 use Rattle.wire.specs.declared.refusal.Refusal.{Refusal}
 use Rattle.wire.proofs.Rows.{passed, pass-all}
-use Rattle.record.specs.Types.{codeOf}
+use Rattle.types.specs.Types.{codeOf}
 use Rattle.record.specs.Record.{headerChecks, payloadChecks, recordOf, recordWith, recordRows, encodeRows, encodeRecord}
 use Rattle.record.specs.declared.record.Record.{Record}
 use Rattle.parser.specs.Push.{parserOf, countsOk, errorOk, soundParser, Push, headTaken, headWith, push}

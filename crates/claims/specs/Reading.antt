@@ -11,9 +11,9 @@ use Rattle.wire.specs.Refusals.{pick, none, first, passes}
 use Rattle.protocol.specs.Outer as Outer
 use Rattle.protocol.specs.Outer.{maxPayload}
 use Rattle.wire.specs.declared.refusal.Refusal.{Refusal}
-use Rattle.record.specs.Types.{codeOf}
+use Rattle.types.specs.Types.{codeOf}
 use Rattle.record.specs.Record.{recordRows, recordBytes, encodeRecord}
-use Rattle.record.specs.declared.types.RecordType.{RecordType}
+use Rattle.types.specs.declared.RecordType.{RecordType}
 use Rattle.record.specs.declared.record.Record.{Record}
 use Rattle.parser.specs.Push.{soundParser, Push, stopped, push, pushStage, Outcome, pushOf, fresh, heldIn, payloadAt, neededOf, bufferedOf}
 use Rattle.parser.specs.declared.parser.RecordParser.{RecordParser}

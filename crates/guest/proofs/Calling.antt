@@ -16,7 +16,7 @@ use Rattle.protocol.specs.declared.outer.Written.{Written}
 use Rattle.wire.proofs.Numbers.{from-to, length-to}
 use Rattle.wire.proofs.Rows.{picked, and-left, and-right, row-stops, row-passes, no-rows}
 use Rattle.protocol.proofs.Writes.{write-stops, write-done}
-use Rattle.record.specs.Types.{lengthOk}
+use Rattle.types.specs.Types.{lengthOk}
 use Rattle.record.specs.Record.{allZero, recordRows, encodeRows, recordBytes, encodeRecord}
 use Rattle.parser.specs.Push.{neededOf, bufferedOf, counted, soundParser}
 use Rattle.parser.specs.declared.parser.Count.{Count}

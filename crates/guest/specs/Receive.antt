@@ -8,7 +8,7 @@ use lib.Dec.{eqb, leb}
 use Rattle.wire.specs.Refusals.{pick, refusal, none, first, passes}
 use Rattle.protocol.specs.Outer.{maxPayload}
 use Rattle.wire.specs.declared.refusal.Refusal.{Refusal}
-use Rattle.record.specs.Types.{codeOf}
+use Rattle.types.specs.Types.{codeOf}
 use Rattle.record.specs.declared.record.Record.{Record}
 use Rattle.parser.specs.Push.{Push, push, pushStage, heldIn}
 use Rattle.parser.specs.declared.parser.RecordParser.{RecordParser}

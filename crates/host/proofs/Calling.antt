@@ -15,7 +15,7 @@ use Rattle.wire.specs.declared.refusal.Refusal.{Refusal}
 use Rattle.protocol.specs.declared.outer.Written.{Written}
 use Rattle.wire.proofs.Rows.{row-stops, row-passes}
 use Rattle.protocol.proofs.Writes.{write-stops, write-done}
-use Rattle.record.specs.Types.{lengthOk}
+use Rattle.types.specs.Types.{lengthOk}
 use Rattle.record.specs.Record.{allZero, encodeRows, recordBytes, encodeRecord}
 use Rattle.parser.specs.Push.{neededOf, bufferedOf, counted}
 use Rattle.parser.specs.declared.parser.Count.{Count}

@@ -1,8 +1,4 @@
 // Records: what a header says, the checks on header and payload, the encoder, and a record's asks.
-use crate::types::ErrorCode;
-use crate::types::ErrorLookup;
-use crate::types::RecordType;
-use crate::types::TypeLookup;
 use protocol::outer::OUTER_MAGIC;
 use protocol::outer::OUTER_VERSION;
 use protocol::outer::Written;
@@ -11,6 +7,10 @@ use protocol::outer::encode_header;
 use protocol::outer::put_record;
 use protocol::outer::value;
 use protocol::outer::window_ok;
+use types::ErrorCode;
+use types::ErrorLookup;
+use types::RecordType;
+use types::TypeLookup;
 use wire::Epoch;
 use wire::Sequence;
 use wire::bytes::u32_from_le_bytes;
@@ -23,7 +23,7 @@ ghost use lib.ListN.{length};
 ghost use lib.Dec.{eqb};
 ghost use Rattle.wire.specs.Refusals.{refusal, first};
 ghost use Rattle.protocol.specs.Outer.{outcome, windowOk, creditOk};
-ghost use Rattle.record.specs.Types.{codeOf};
+ghost use Rattle.types.specs.Types.{codeOf};
 ghost use Rattle.record.specs.Record.{allZero, noRecord, lengthRow, bootstrapRow, restRows, recordRows, payloadChecks, recordWith, recordOf, headerChecks, parseHeader, encodeRecord, valueIn, windowIn, creditIn, errorIn};
 
 // A record that was decoded and validated, without its payload.

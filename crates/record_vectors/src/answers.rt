@@ -6,7 +6,7 @@ use parser::parser::payload;
 use protocol::outer::Written;
 use record::record::Record;
 use record::record::Value;
-use record::types::ErrorLookup;
+use types::ErrorLookup;
 use wire::refusal::Refusal;
 
 // A refusal's number and its first two figures.

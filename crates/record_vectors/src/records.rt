@@ -5,7 +5,7 @@ use protocol::outer::Written;
 use protocol::outer::encode_header;
 use protocol::outer::put_record;
 use record::record::encode_record;
-use record::types::RecordType;
+use types::RecordType;
 use wire::Epoch;
 use wire::Sequence;
 ghost use mathlib.Core.Path.{_≡_};

@@ -2,7 +2,7 @@
 use crate::answers;
 use parser::parser::RecordParser;
 use record::record::encode_record;
-use record::types::RecordType;
+use types::RecordType;
 use wire::Epoch;
 use wire::Sequence;
 

@@ -19,10 +19,10 @@ use crate::outer_calls::encoder_fields;
 use crate::outer_calls::wrote;
 use protocol::outer::Written;
 use record::record::encode_record;
-use record::types::ErrorCode;
-use record::types::ErrorLookup;
-use record::types::RecordType;
-use record::types::TypeLookup;
+use types::ErrorCode;
+use types::ErrorLookup;
+use types::RecordType;
+use types::TypeLookup;
 
 // encode_record with the fields of an encoder's input.
 fn encode_to(

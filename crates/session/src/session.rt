@@ -3,7 +3,7 @@ use protocol::outer::OUTER_MAX_PAYLOAD;
 use record::record::Record;
 use record::record::all_zero;
 use record::record::encode_record;
-use record::types::RecordType;
+use types::RecordType;
 use wire::Epoch;
 use wire::Sequence;
 use wire::bytes::least;
@@ -12,7 +12,7 @@ ghost use mathlib.Core.Path.{_≡_};
 ghost use mathlib.Core.List.{[], _∷_};
 ghost use lib.ListN.{length};
 ghost use Rattle.wire.specs.Refusals.{first};
-ghost use Rattle.record.specs.Types.{codeOf};
+ghost use Rattle.types.specs.Types.{codeOf};
 ghost use Rattle.session.specs.Checks.{identityOf, same, noIdentity, identityOk, holds, shown, recordIdentity, nextSequence, sequenceRow, otherInstance, instanceRow, epochRow};
 ghost use Rattle.session.specs.Writes.{outcome, notEncoded, encodeNext, encodeData};
 
