@@ -13,9 +13,10 @@ pub const AREA: usize = 65600;
 pub const OUTPUT: usize = 196800;
 
 // A frame: the operation, two figures, the place and the bytes of its input, and where the frame
-// ends.
+// ends. `thin`: a session's receive and credit go by the thin entries.
 pub struct Frame {
     pub op: u8,
+    pub thin: bool,
     pub a: u64,
     pub b: u64,
     pub from: usize,
@@ -54,12 +55,13 @@ fn wide(x: u32) -> usize {
 }
 
 // The frame at a place.
-fn head(calls: &[u8], at: usize) -> Frame {
+fn head(calls: &[u8], at: usize, thin: bool) -> Frame {
     let h = cut(calls, at, FRAME);
     let size = wide(four(h, 4));
     let from = after(at, FRAME);
     Frame {
         op: byte(h, 0),
+        thin,
         a: eight(h, 8),
         b: eight(h, 16),
         from,
@@ -111,6 +113,7 @@ pub(crate) fn area(s: &mut [u8], from: usize, count: usize) -> &mut [u8] {
 fn none() -> Frame {
     Frame {
         op: 0,
+        thin: false,
         a: 0,
         b: 0,
         from: 0,
@@ -120,11 +123,11 @@ fn none() -> Frame {
 }
 
 // The frame at a place, where it is whole; no frame where the frames end.
-fn next(calls: &[u8], at: usize) -> Frame {
+fn next(calls: &[u8], at: usize, thin: bool) -> Frame {
     if calls.len() < at {
         return none();
     }
-    let f = head(calls, at);
+    let f = head(calls, at, thin);
     if f.op == 0 {
         return none();
     }
@@ -138,12 +141,28 @@ fn next(calls: &[u8], at: usize) -> Frame {
 }
 
 // The same; no frame where the output has no room for its answer.
-pub(crate) fn frame_at(calls: &[u8], at: usize, out: &[u8], o: usize) -> Frame {
+pub(crate) fn frame_at(calls: &[u8], at: usize, thin: bool, out: &[u8], o: usize) -> Frame {
     if out.len() < o {
         return none();
     }
     if out.len() - o < ROOM {
         return none();
     }
-    next(calls, at)
+    next(calls, at, thin)
+}
+
+// Whether two slices have the same bytes.
+pub(crate) fn same(a: &[u8], b: &[u8]) -> bool {
+    if a.len() != b.len() {
+        return false;
+    }
+    let mut equal = true;
+    let mut i: usize = 0;
+    while i < a.len() {
+        if a[i] != b[i] {
+            equal = false;
+        }
+        i += 1;
+    }
+    equal
 }

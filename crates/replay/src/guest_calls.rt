@@ -24,8 +24,11 @@ use guest::guest::Closed;
 use guest::guest::GuestEvent;
 use guest::guest::GuestSession;
 use guest::guest::GuestState;
+use guest::guest::Received;
 use guest::guest::Sent;
 use guest::guest::WindowAnswer;
+use guest_entry::credit_once;
+use guest_entry::receive_once;
 use wire::Sequence;
 
 // Where the stage stands in the memory: its first area.
@@ -83,25 +86,42 @@ fn shown(guest: GuestSession, answer: Answer) -> Ran {
     }
 }
 
-// A call that writes, by its number.
+// A call that writes, by its number: 14 is credit, 15 credit by the thin entry.
 fn write(g: GuestSession, op: u8, value: u32, input: &[u8], output: &mut [u8], at: usize) -> Sent {
     match op {
         10 => g.attach(output, at),
         12 => g.acknowledge(value, output, at),
         13 => g.send(input, output, at),
-        _ => g.credit(value, output, at),
+        14 => g.credit(value, output, at),
+        _ => credit_once(g, value, output, at),
     }
+}
+
+// The number by which `write` goes.
+fn write_number(op: u8, thin: bool) -> u8 {
+    if op != 14 {
+        return op;
+    }
+    if thin { 15 } else { 14 }
 }
 
 fn writing(g: GuestSession, f: Frame, input: &[u8], memory: &mut [u8]) -> Ran {
     let output = area(memory, OUTPUT, within(f.a / 4294967296));
     let at = f.b as usize;
-    let s = write(g, f.op, low(f.a), input, output, at);
+    let s = write(g, write_number(f.op, f.thin), low(f.a), input, output, at);
     shown(s.session, wrote(s.refusal, s.next, at, s.count as u64))
 }
 
+// receive, or receive by the thin entry.
+fn take(g: GuestSession, thin: bool, input: &[u8], stage: &mut [u8]) -> Received {
+    if thin {
+        return receive_once(g, input, stage);
+    }
+    g.receive(input, stage)
+}
+
 fn receive(g: GuestSession, f: Frame, input: &[u8], memory: &mut [u8]) -> Ran {
-    let r = g.receive(input, area(memory, STAGE, within(f.a)));
+    let r = take(g, f.thin, input, area(memory, STAGE, within(f.a)));
     let event = r.event;
     let place = r.place;
     let answer = received(

@@ -21,7 +21,9 @@ use host::host::Closed;
 use host::host::HostEvent;
 use host::host::HostSession;
 use host::host::HostState;
+use host::host::Received;
 use host::host::Sent;
+use host_entry::receive_once;
 use wire::Sequence;
 use wire::bytes::copy_at;
 
@@ -106,8 +108,16 @@ fn attach(h: HostSession, f: Frame, input: &[u8], memory: &mut [u8]) -> Ran {
     writing(h, f, input, memory)
 }
 
+// receive, or receive by the thin entry.
+fn take(h: HostSession, thin: bool, input: &[u8], stage: &mut [u8]) -> Received {
+    if thin {
+        return receive_once(h, input, stage);
+    }
+    h.receive(input, stage)
+}
+
 fn receive(h: HostSession, f: Frame, input: &[u8], memory: &mut [u8]) -> Ran {
-    let r = h.receive(input, area(memory, STAGE, within(f.a)));
+    let r = take(h, f.thin, input, area(memory, STAGE, within(f.a)));
     let event = r.event;
     let place = r.place;
     let answer = received(

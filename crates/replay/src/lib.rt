@@ -21,6 +21,7 @@ use crate::frame::AREA;
 use crate::frame::Frame;
 use crate::frame::cut;
 use crate::frame::frame_at;
+use crate::frame::same;
 use guest::guest::GuestSession;
 use host::host::HostSession;
 use parser::parser::RecordParser;
@@ -75,7 +76,7 @@ fn finish(
 }
 
 // Runs the frames one after another and gives the place where the answers end.
-fn run(calls: &[u8], out: &mut [u8]) -> usize {
+fn run(calls: &[u8], thin: bool, out: &mut [u8]) -> usize {
     let mut memory = [0u8; 262400];
     let mut guest = GuestSession::new();
     let mut host = HostSession::new();
@@ -83,7 +84,7 @@ fn run(calls: &[u8], out: &mut [u8]) -> usize {
     let mut o: usize = 0;
     let mut at: usize = 0;
     while at < calls.len() {
-        let f = frame_at(calls, at, out, o);
+        let f = frame_at(calls, at, thin, out, o);
         let end = f.end;
         if end <= at {
             return o;
@@ -101,14 +102,32 @@ fn run(calls: &[u8], out: &mut [u8]) -> usize {
     o
 }
 
-// Runs the calls of a block on fresh sessions and a memory of zeros. The answers stand in the
-// output, one after another; the result is where they end.
-pub fn block(calls: &[u8], out: &mut [u8]) -> usize
+// Marks the answers where they are not those of the second run: the first one's operation is then
+// 255, which no answer has.
+fn checked(out: &mut [u8], end: usize, second: &[u8]) -> usize
     ensures { λ r. ⌜ r ≤ length (now (out .exit)) ⌝ }
 {
-    let end = run(calls, out);
     if out.len() < end {
         return 0;
     }
+    if end < 5 {
+        return end;
+    }
+    if same(cut(out, 0, end), cut(second, 0, end)) {
+        return end;
+    }
+    out[4] = 255;
     end
+}
+
+// Runs the calls of a block on fresh sessions and a memory of zeros. The answers stand in the
+// output, of at most 262,144 bytes, one after another; the result is where they end. The calls are
+// run a second time by the thin entries, and the answers are compared.
+pub fn block(calls: &[u8], out: &mut [u8]) -> usize
+    ensures { λ r. ⌜ r ≤ length (now (out .exit)) ⌝ }
+{
+    let mut second = [0u8; 262144];
+    let end = run(calls, false, out);
+    run(calls, true, &mut second);
+    checked(out, end, &second)
 }

@@ -9,10 +9,10 @@ use Rattle.replay.proofs.run.Statement.{statement}
 use Rattle.replay.proofs.run.Tie as tie
 
 abbrev Inv-loop : tie.InvT-loop
-Inv-loop calls out₀ memory₀ guest₀ host₀ parser₀ o₀ at₀ out memory guest host parser o at = (length out ≡ length out₀) × (length memory ≡ 262400)
+Inv-loop calls thin out₀ memory₀ guest₀ host₀ parser₀ o₀ at₀ out memory guest host parser o at = (length out ≡ length out₀) × (length memory ≡ 262400)
 
 abbrev μ-loop : tie.MeasureT-loop
-μ-loop calls out₀ memory₀ guest₀ host₀ parser₀ o₀ at₀ out memory guest host parser o at = length calls - at
+μ-loop calls thin out₀ memory₀ guest₀ host₀ parser₀ o₀ at₀ out memory guest host parser o at = length calls - at
 
 new-requires : tie.Need-new-requires Inv-loop μ-loop
 new-requires c κs = search needs
