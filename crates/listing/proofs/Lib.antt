@@ -1,0 +1,5 @@
+pub mod Texts
+pub mod Counts
+pub mod Cases
+pub mod Lines
+pub mod Bounds
