@@ -1,0 +1,222 @@
+-- The cases of the listing's rules, a law for each `return` of the code: what was tested there, and what is answered. Assumes nothing.
+use Prim.Native.Nat.{ℕ, _+_, _-_, _^_, _≤_, _<_, min}
+use mathlib.Core.Path.{_≡_, refl, sym, ap, _∙_}
+use mathlib.Core.Bool.{Bool, true, false, not, _&&_}
+use mathlib.Core.List.{List, [], _∷_}
+use native.Mathlib.Omega.{arith}
+use native.Mathlib.Decide.{decLe}
+use lib.ListN.{length, take, drop}
+use lib.Dec.{eqb, leb, ltb}
+use borrow.Author.Tests.{le-leb, lt-leb, leb-true, eq-eqb, ne-eqb, not-true, not-false}
+use Rattle.protocol.specs.Bytes.{overlay}
+use Rattle.protocol.specs.Refusals.{pick, refusal, none, first, passes}
+use Rattle.protocol.specs.Outer.{valueOf, write}
+use Rattle.protocol.specs.Outer as outer
+use Rattle.protocol.specs.declared.refusal.Refusal.{Refusal}
+use Rattle.protocol.specs.declared.outer.Written.{Written}
+use Rattle.protocol.proofs.Rows.{picked, and-left, and-right, pass-all, row-stops, row-passes}
+use Rattle.record.specs.Types.{codeOf}
+use Rattle.record.specs.declared.record.Record.{Record}
+use Rattle.parser.specs.Push as parser
+use Rattle.parser.specs.Push.{soundParser, pushOf, push, heldIn, bufferedOf, counted, payloadAt}
+use Rattle.parser.specs.declared.parser.Count.{Count}
+use Rattle.parser.specs.declared.parser.Pushed.{Pushed}
+use Rattle.decimal.specs.Decimal.{Puts}
+use Rattle.listing.specs.Listing.{names, line, ending, openAfter, limit}
+use Rattle.listing.specs.Steps.{listingOf, readOf, soundListing, listed, Outcome, outcome, opens, lineOf, recordListed, pushed, stepOf, lines, soundRow, roomRow, listRows, readable, listOf, endOf}
+use Rattle.listing.specs.declared.listing.Listing.{Listing}
+use Rattle.listing.specs.declared.listing.Listed.{Listed}
+use Rattle.listing.proofs.Counts.{Came, came, clash}
+
+-- ---- soundness
+module _ (s : Listing) (c : Count) (e : c ≡ counted (s .parser) (bufferedOf (s .parser))) where
+  counted-not : (c .refusal .number ≡ 0 → ⊥) → soundParser (s .parser) ≡ false
+  unfolding counted
+  counted-not h =
+      picked (λ (x : Count). c ≡ x → soundParser (s .parser) ≡ false) (soundParser (s .parser))
+      (λ _ q. absurd (h (ap (λ (x : Count). x .refusal .number) q)))
+      (λ f _. f)
+      e
+
+  counted-sound : c .refusal .number ≡ 0 → (soundParser (s .parser) ≡ true) × (c .count ≡ bufferedOf (s .parser))
+  unfolding counted
+  counted-sound h =
+      picked (λ (x : Count). c ≡ x → (soundParser (s .parser) ≡ true) × (c .count ≡ bufferedOf (s .parser))) (soundParser (s .parser))
+      (λ t q. (t, ap (λ (x : Count). x .count) q))
+      (λ _ q. let z : 23 ≡ 0 = sym (ap (λ (x : Count). x .refusal .number) q) ∙ h in absurd (omega arith))
+      e
+
+  pub sound-not : (c .refusal .number ≡ 0 → ⊥) → false ≡ soundListing s
+  unfolding soundListing
+  sound-not h = sym (ap (λ (t : Bool). t && (leb (s .«open») (s .offset) && leb (readOf s) limit)) (counted-not h))
+
+  module _ (h : c .refusal .number ≡ 0) where
+    pub sound-open : s .offset < s .«open» → false ≡ soundListing s
+    unfolding soundListing
+    sound-open l =
+        sym ((λ j. counted-sound h .0 j && (lt-leb (s .«open») (s .offset) l j && leb (readOf s) limit)))
+
+    pub sound-far : s .«open» ≤ s .offset → limit < s .offset → false ≡ soundListing s
+    unfolding soundListing
+    sound-far l f = sym (λ j. counted-sound h .0 j && (le-leb (s .«open») (s .offset) l j && lt-leb (readOf s) limit (omega arith) j))
+
+    pub sound-read : s .«open» ≤ s .offset → s .offset ≤ limit → leb (c .count) (limit - s .offset) ≡ soundListing s
+    unfolding soundListing
+    sound-read l f =
+        let k = counted-sound h .1 in
+        go (decLe (readOf s) limit)
+        ∙ sym (λ j. counted-sound h .0 j && (le-leb (s .«open») (s .offset) l j && leb (readOf s) limit))
+      where
+        go : Dec (readOf s ≤ limit) → leb (c .count) (limit - s .offset) ≡ leb (readOf s) limit
+        go (yes z) = le-leb (c .count) (limit - s .offset) (omega (arith, counted-sound h .1)) ∙ sym (le-leb (readOf s) limit z)
+        go (no z) = lt-leb (c .count) (limit - s .offset) (omega (arith, counted-sound h .1)) ∙ sym (lt-leb (readOf s) limit (omega arith))
+
+  -- of a sound listing the parser is, so that its count is the bytes that it holds
+  pub count-is : soundListing s ≡ true → c .count ≡ bufferedOf (s .parser)
+  unfolding soundListing counted
+  count-is t =
+      ap (λ (x : Count). x .count)
+      (e ∙ ap (λ (b : Bool). pick b (record { refusal = none; count = bufferedOf (s .parser) }) (record { refusal = refusal 23 0 0 0; count = 0 }))
+      (and-left (soundParser (s .parser)) (leb (s .«open») (s .offset) && leb (readOf s) limit) t))
+
+pub ruleset soundness = (sound-not, sound-open, sound-far, sound-read)
+
+pub record Facts (s : Listing) : Type 0 where
+  pub parser : soundParser (s .parser) ≡ true
+  pub «open» : s .«open» ≤ s .offset
+  pub read : readOf s ≤ limit
+
+pub facts : (s : Listing) → soundListing s ≡ true → Facts s
+unfolding soundListing
+facts s t =
+    let q : leb (s .«open») (s .offset) && leb (readOf s) limit ≡ true = and-right (soundParser (s .parser)) (leb (s .«open») (s .offset) && leb (readOf s) limit) t in
+    record {
+      parser = and-left (soundParser (s .parser)) (leb (s .«open») (s .offset) && leb (readOf s) limit) t;
+      «open» = leb-true (s .«open») (s .offset) (and-left (leb (s .«open») (s .offset)) (leb (readOf s) limit) q);
+      read = leb-true (readOf s) limit (and-right (leb (s .«open») (s .offset)) (leb (readOf s) limit) q);
+    }
+
+from-facts : (s : Listing) → Facts s → soundListing s ≡ true
+unfolding soundListing
+from-facts s f = λ j. f .parser j && (le-leb (s .«open») (s .offset) (f .«open») j && le-leb (readOf s) limit (f .read) j)
+
+-- ---- open
+module _ (o code size : ℕ) (payload : List ℕ) where
+  pub opens-reset : code ≡ 3 → 0 ≡ openAfter o code size payload
+  unfolding openAfter
+  opens-reset e = simp (eq-eqb code 3 e)
+
+  module _ (n : code ≡ 3 → ⊥) where
+    pub opens-data : code ≡ 5 → o + size ≡ openAfter o code size payload
+    unfolding openAfter
+    opens-data e = simp (ne-eqb code 3 n, eq-eqb code 5 e)
+
+    module _ (m : code ≡ 5 → ⊥) where
+      pub opens-credit : (r v : ℕ) → code ≡ 9 → v ≡ valueOf payload → r ≡ o - v → r ≡ openAfter o code size payload
+      unfolding openAfter
+      opens-credit r v e q w = simp (ne-eqb code 3 n, ne-eqb code 5 m, eq-eqb code 9 e) (w ∙ ap (λ (x : ℕ). o - x) q)
+
+      pub opens-other : (code ≡ 9 → ⊥) → o ≡ openAfter o code size payload
+      unfolding openAfter
+      opens-other k = simp (ne-eqb code 3 n, ne-eqb code 5 m, ne-eqb code 9 k)
+
+  opens-low : openAfter o code size payload ≤ o + size
+  unfolding openAfter
+  opens-low =
+      picked (λ (x : ℕ). x ≤ o + size) (eqb code 3) (λ _. omega arith)
+      (λ _. picked (λ (x : ℕ). x ≤ o + size) (eqb code 5) (λ _. omega arith)
+      (λ _. picked (λ (x : ℕ). x ≤ o + size) (eqb code 9) (λ _. omega arith) (λ _. omega arith)))
+
+pub ruleset opening = (opens-reset, opens-data, opens-credit, opens-other)
+
+-- ---- a record's line
+pub record-line : (s : Listing) (a : Pushed) (payload : List ℕ) {o e : List ℕ} (at code p : ℕ) {written : ℕ} (x : Refusal)
+    → code ≡ codeOf (a .«record» .«record_type») → p ≡ openAfter (s .«open») code (a .«record» .length) payload → x ≡ none
+    → Puts o at (line (s .offset) code (a .«record» .epoch .0) (a .«record» .sequence .0) (a .«record» .length) p) written e
+    → (listed x (a .consumed) written (listingOf (a .parser) (s .offset + (44 + a .«record» .length)) p) ≡ recordListed s a payload at)
+    × (e ≡ overlay o at (lineOf s (a .«record») payload))
+unfolding recordListed lineOf
+record-line s a payload {o} {e} at code p {written} x ec ep ex w =
+    let q : p ≡ opens s (a .«record») payload = ep ∙ ap (λ (k : ℕ). openAfter (s .«open») k (a .«record» .length) payload) ec in
+    let l : line (s .offset) code (a .«record» .epoch .0) (a .«record» .sequence .0) (a .«record» .length) p ≡ lineOf s (a .«record») payload =
+    λ j. line (s .offset) (ec j) (a .«record» .epoch .0) (a .«record» .sequence .0) (a .«record» .length) (q j)
+    in (
+      λ j. listed (ex j) (a .consumed) ((w .next ∙ ap (λ (t : List ℕ). at + length t) l) j) (listingOf (a .parser) (s .offset + (44 + a .«record» .length)) (q j)),
+      w .bytes ∙ ap (overlay o at) l,
+    )
+
+-- ---- one push
+module _ (s : Listing) (piece stage output : List ℕ) (at : ℕ) (a : Pushed) (after : List ℕ) (e : parser.outcome a after ≡ pushOf (s .parser) piece stage) where
+  pub step-line : (payload o2 : List ℕ) (r : Listed) → a .complete ≡ true → payload ≡ payloadAt (a .place) (a .«record» .length) piece after
+      → (r ≡ recordListed s a payload at) × (o2 ≡ overlay output at (lineOf s (a .«record») payload))
+      → outcome r after o2 ≡ stepOf s piece stage output at
+  unfolding pushed
+  step-line payload o2 r t ep w =
+      (λ j. outcome ((w .0 ∙ ap (λ (y : List ℕ). recordListed s a y at) ep) j) after ((w .1 ∙ ap (λ (y : List ℕ). overlay output at (lineOf s (a .«record») y)) ep) j))
+      ∙ sym
+      (ap (λ (b : Bool). pick b
+      (outcome (recordListed s a (payloadAt (a .place) (a .«record» .length) piece after) at) after (overlay output at (lineOf s (a .«record») (payloadAt (a .place) (a .«record» .length) piece after))))
+      (outcome (listed (a .refusal) (a .consumed) at (listingOf (a .parser) (s .offset) (s .«open»))) after output)) t)
+      ∙ ap (pushed s piece output at) e
+
+  pub step-none : a .complete ≡ false → outcome (listed (a .refusal) (a .consumed) at (listingOf (a .parser) (s .offset) (s .«open»))) after output ≡ stepOf s piece stage output at
+  unfolding pushed
+  step-none t =
+      sym
+      (ap (λ (b : Bool). pick b
+      (outcome (recordListed s a (payloadAt (a .place) (a .«record» .length) piece after) at) after (overlay output at (lineOf s (a .«record») (payloadAt (a .place) (a .«record» .length) piece after))))
+      (outcome (listed (a .refusal) (a .consumed) at (listingOf (a .parser) (s .offset) (s .«open»))) after output)) t)
+      ∙ ap (pushed s piece output at) e
+
+  pushed-is : push (s .parser) (length stage) (heldIn (s .parser) stage) piece .answer ≡ a
+  unfolding pushOf
+  pushed-is = ap (λ (o : parser.Outcome). o .pushed) (sym e)
+
+  -- the sums of a record's line fit
+  pub step-fits : soundListing s ≡ true → readOf s + length piece ≤ limit → a .complete ≡ true
+      → (s .«open» ≤ s .offset) × (s .offset + (44 + a .«record» .length) < 2 ^ 64)
+  step-fits t l c =
+      let f = facts s t in
+      let k : Came (bufferedOf (s .parser)) (length piece) a = rw pushed-is at (came (s .parser) (length stage) (heldIn (s .parser) stage) piece (f .parser)) in
+      (f .«open», omega (arith, k .whole c, k .within))
+
+-- what one push does with the counts of a sound listing, lent no more bytes than may be read
+pub record Stepped (s : Listing) (n : ℕ) (r : Listed) : Type 0 where
+  pub within : r .taken ≤ n
+  pub some : passes (r .refusal) ≡ true → 0 < n → 0 < r .taken
+  pub sound : soundListing (r .listing) ≡ true
+  pub read : readOf (r .listing) ≤ readOf s + r .taken
+
+module _ (s : Listing) (piece stage output : List ℕ) (at : ℕ) (t : soundListing s ≡ true) (l : readOf s + length piece ≤ limit) where
+  abbrev a : Pushed
+  a = push (s .parser) (length stage) (heldIn (s .parser) stage) piece .answer
+
+  abbrev y : List ℕ
+  y = payloadAt (a .place) (a .«record» .length) piece (pushOf (s .parser) piece stage .stage)
+
+  k : Came (bufferedOf (s .parser)) (length piece) a
+  k = came (s .parser) (length stage) (heldIn (s .parser) stage) piece (facts s t .parser)
+
+  pub stepped : Stepped s (length piece) (stepOf s piece stage output at .listed)
+  unfolding pushOf pushed recordListed
+  stepped =
+      let f = facts s t in
+      let b = k in
+      picked (λ (o : Outcome). Stepped s (length piece) (o .listed)) (a .complete)
+      (λ c.
+      let w : bufferedOf (s .parser) + a .consumed ≡ 44 + a .«record» .length = b .whole c in
+      let z : bufferedOf (a .parser) ≡ 0 = b .empty c in
+      record {
+        within = b .within;
+        some = λ _. b .some (b .clear c);
+        sound = from-facts _ (record { parser = b .sound; «open» = omega (arith, f .«open», opens-low (s .«open») (codeOf (a .«record» .«record_type»)) (a .«record» .length) y); read = omega (arith, b .within) });
+        read = omega arith;
+      })
+      (λ c.
+      let z : bufferedOf (a .parser) ≤ bufferedOf (s .parser) + a .consumed = b .kept c in
+      record {
+        within = b .within;
+        some = b .some;
+        sound = from-facts _ (record { parser = b .sound; «open» = f .«open»; read = omega (arith, b .within) });
+        read = omega arith;
+      })

@@ -1,0 +1,230 @@
+-- The loop over a piece: what is left to do from where it stands is what was to be done at first, with enough pushes allowed for the
+-- bytes that are left. And the ways out of the calls that write. Assumes nothing.
+use Prim.Native.Nat.{ℕ, zero, suc, _+_, _-_, _^_, _≤_, _<_, min}
+use mathlib.Core.Path.{_≡_, refl, sym, ap, subst, _∙_}
+use mathlib.Core.Bool.{Bool, true, false, not, _&&_}
+use mathlib.Core.List.{List, [], _∷_}
+use native.Mathlib.Omega.{arith}
+use lib.ListN.{length, take, drop, length-take, length-drop}
+use lib.Dec.{eqb, leb, ltb}
+use borrow.Author.Tests.{le-leb, lt-leb, lt-ltb, le-ltb, eq-eqb, ne-eqb, not-true, not-false}
+use Rattle.protocol.specs.Bytes.{overlay}
+use Rattle.protocol.specs.Refusals.{pick, refusal, none, first, passes}
+use Rattle.protocol.specs.Outer.{write}
+use Rattle.protocol.specs.Outer as outer
+use Rattle.protocol.specs.declared.refusal.Refusal.{Refusal}
+use Rattle.protocol.specs.declared.outer.Written.{Written}
+use Rattle.protocol.proofs.Rows.{pass-all, row-stops, row-passes}
+use Rattle.parser.specs.Push.{bufferedOf}
+use Rattle.parser.proofs.Parts.{part-end, take-min}
+use Rattle.decimal.specs.Decimal.{Puts}
+use Rattle.listing.specs.Listing.{names, ending, limit}
+use Rattle.listing.specs.Steps.{readOf, soundListing, listed, Outcome, outcome, stepOf, lines, soundRow, roomRow, listRows, readable, listOf, endOf}
+use Rattle.listing.specs.declared.listing.Listing.{Listing}
+use Rattle.listing.specs.declared.listing.Listed.{Listed}
+use Rattle.listing.proofs.Cases.{Facts, facts, Stepped, stepped}
+
+-- ---- one turn of the rule
+module _ (s : Listing) (piece stage output : List ℕ) (taken at : ℕ) where
+  abbrev stay : Outcome
+  stay = outcome (listed none taken at s) stage output
+
+  abbrev o : Outcome
+  o = stepOf s (drop taken piece) stage output at
+
+  abbrev on : ℕ → Outcome
+  on n = lines n (o .listed .listing) piece (o .stage) (o .output) (taken + o .listed .taken) (o .listed .written)
+
+  abbrev out : Outcome
+  out = outcome (listed (o .listed .refusal) (taken + o .listed .taken) (o .listed .written) (o .listed .listing)) (o .stage) (o .output)
+
+  lines-end : (n : ℕ) → length piece ≤ taken → lines n s piece stage output taken at ≡ stay
+  unfolding lines
+  lines-end zero h = refl
+  lines-end (suc n) h =
+      ap (λ (t : Bool). pick (t && leb (at + 126) (length output)) (pick (passes (o .listed .refusal)) (on n) out) stay) (le-ltb taken (length piece) h)
+
+  lines-full : (n : ℕ) → taken < length piece → length output < at + 126 → lines n s piece stage output taken at ≡ stay
+  unfolding lines
+  lines-full zero h l = refl
+  lines-full (suc n) h l =
+      λ j. pick (lt-ltb taken (length piece) h j && lt-leb (at + 126) (length output) l j) (pick (passes (o .listed .refusal)) (on n) out) stay
+
+  module _ (n : ℕ) (h : taken < length piece) (l : at + 126 ≤ length output) where
+    lines-step : (b : Bool) → passes (o .listed .refusal) ≡ b → lines (suc n) s piece stage output taken at ≡ pick b (on n) out
+    unfolding lines
+    lines-step b e = λ j. pick (lt-ltb taken (length piece) h j && le-leb (at + 126) (length output) l j) (pick (e j) (on n) out) stay
+
+-- ---- the loop
+pub record Going (s₀ : Listing) (piece stage₀ output₀ : List ℕ) (s : Listing) (stage output : List ℕ) (taken at : ℕ) : Type 0 where
+  pub fuel : ℕ
+  pub enough : length piece ≤ taken + fuel
+  pub within : taken ≤ length piece
+  pub same : lines fuel s piece stage output taken at ≡ lines (length piece) s₀ piece stage₀ output₀ 0 0
+  pub sound : soundListing s ≡ true
+  pub read : readOf s + length piece ≤ limit + taken
+  pub stage-size : length stage ≡ length stage₀
+  pub output-size : length output ≡ length output₀
+
+pub going-first : (s : Listing) (piece stage output : List ℕ) → soundListing s ≡ true → readOf s + length piece ≤ limit → Going s piece stage output s stage output 0 0
+going-first s piece stage output t l =
+    record { fuel = length piece; enough = omega arith; within = omega arith; same = refl; sound = t; read = omega arith; stage-size = refl; output-size = refl }
+
+module _ {s₀ : Listing} {piece stage₀ output₀ : List ℕ} {s : Listing} {stage output : List ℕ} {taken at : ℕ} (g : Going s₀ piece stage₀ output₀ s stage output taken at) where
+  pub going-end : (x : Refusal) → x ≡ none → length piece ≤ taken → outcome (listed x taken at s) stage output ≡ lines (length piece) s₀ piece stage₀ output₀ 0 0
+  going-end x e h = ap (λ (y : Refusal). outcome (listed y taken at s) stage output) e ∙ sym (lines-end s piece stage output taken at (g .fuel) h) ∙ g .same
+
+  pub going-full : (x : Refusal) → x ≡ none → taken < length piece → length output₀ - 126 < at
+      → outcome (listed x taken at s) stage output ≡ lines (length piece) s₀ piece stage₀ output₀ 0 0
+  going-full x e h l =
+      ap (λ (y : Refusal). outcome (listed y taken at s) stage output) e ∙ sym (lines-full s piece stage output taken at (g .fuel) h (omega (arith, g .output-size))) ∙ g .same
+
+  module _ (r : Listed) (after o2 : List ℕ) (h : taken < length piece) (l : at + 126 ≤ length output)
+      (e : outcome r after o2 ≡ stepOf s (take (length piece - taken) (drop taken piece)) stage output at) where
+    told : outcome r after o2 ≡ stepOf s (drop taken piece) stage output at
+    told = e ∙ ap (λ (x : List ℕ). stepOf s x stage output at) (part-end taken piece)
+
+    rest-length : length (drop taken piece) ≡ length piece - taken
+    rest-length = length-drop taken piece
+
+    pub went : Stepped s (length (drop taken piece)) r
+    went =
+        let q = rest-length in
+        subst (λ (x : Outcome). Stepped s (length (drop taken piece)) (x .listed)) (sym told) (stepped s (drop taken piece) stage output at (g .sound) (omega (arith, g .read, g .within)))
+
+    pub taken-within : taken + r .taken ≤ length piece
+    taken-within = let q = rest-length in omega (arith, went .within, g .within)
+
+    pub taken-some : r .refusal .number ≡ 0 → 0 < r .taken
+    taken-some z = let q = rest-length in went .some (eq-eqb (r .refusal .number) 0 z) (omega arith)
+
+    turn : (n : ℕ) (b : Bool) → passes (r .refusal) ≡ b → lines (suc n) s piece stage output taken at
+        ≡ pick b (lines n (r .listing) piece after o2 (taken + r .taken) (r .written)) (outcome (listed (r .refusal) (taken + r .taken) (r .written) (r .listing)) after o2)
+    turn n b q =
+        lines-step s piece stage output taken at n h l b (ap (λ (x : Outcome). passes (x .listed .refusal)) (sym told) ∙ q)
+        ∙ (λ j. pick b
+        (lines n (sym told j .listed .listing) piece (sym told j .stage) (sym told j .output) (taken + sym told j .listed .taken) (sym told j .listed .written))
+        (outcome (listed (sym told j .listed .refusal) (taken + sym told j .listed .taken) (sym told j .listed .written) (sym told j .listed .listing)) (sym told j .stage) (sym told j .output)))
+
+    pub going-out : (r .refusal .number ≡ 0 → ⊥) → outcome (listed (r .refusal) (taken + r .taken) (r .written) (r .listing)) after o2 ≡ lines (length piece) s₀ piece stage₀ output₀ 0 0
+    going-out z = go (g .fuel) (g .enough) (g .same)
+      where
+        go : (n : ℕ) → length piece ≤ taken + n → lines n s piece stage output taken at ≡ lines (length piece) s₀ piece stage₀ output₀ 0 0
+            → outcome (listed (r .refusal) (taken + r .taken) (r .written) (r .listing)) after o2 ≡ lines (length piece) s₀ piece stage₀ output₀ 0 0
+        go zero k w = absurd (omega arith)
+        go (suc n) k w = sym (turn n false (ne-eqb (r .refusal .number) 0 z)) ∙ w
+
+    pub going-on : r .refusal .number ≡ 0 → length after ≡ length stage → length o2 ≡ length output
+        → Going s₀ piece stage₀ output₀ (r .listing) after o2 (taken + r .taken) (r .written)
+    going-on z ls lo = go (g .fuel) (g .enough) (g .same)
+      where
+        go : (n : ℕ) → length piece ≤ taken + n → lines n s piece stage output taken at ≡ lines (length piece) s₀ piece stage₀ output₀ 0 0
+            → Going s₀ piece stage₀ output₀ (r .listing) after o2 (taken + r .taken) (r .written)
+        go zero k w = absurd (omega arith)
+        go (suc n) k w =
+            record {
+              fuel = n;
+              enough = omega (arith, taken-some z);
+              within = taken-within;
+              same = sym (turn n true (eq-eqb (r .refusal .number) 0 z)) ∙ w;
+              sound = went .sound;
+              read = omega (arith, went .read, g .read);
+              stage-size = ls ∙ g .stage-size;
+              output-size = lo ∙ g .output-size;
+            }
+
+-- ---- the ways out of `list`
+module _ (s : Listing) (piece stage output : List ℕ) (b : Bool) (eb : b ≡ soundListing s) where
+  list-stops : (x : Refusal) (r : Listed) → x ≡ first (listRows s stage output) → (x .number ≡ 0 → ⊥) → r ≡ listed x 0 0 s → outcome r stage output ≡ listOf s piece stage output
+  unfolding listOf
+  list-stops x r e n q =
+      (λ j. outcome ((q ∙ ap (λ (y : Refusal). listed y 0 0 s) e) j) stage output)
+      ∙ sym
+      (ap (λ (t : Bool). pick t (lines (length (readable s piece)) s (readable s piece) stage output 0 0) (outcome (listed (first (listRows s stage output)) 0 0 s) stage output))
+      (ap (λ (y : Refusal). passes y) (sym e) ∙ ne-eqb (x .number) 0 n))
+
+  numbered : (n : ℕ) (x : Refusal) → x ≡ refusal n 0 0 0 → (n ≡ 0 → ⊥) → x .number ≡ 0 → ⊥
+  numbered n x e h z = h (sym (ap (λ (y : Refusal). y .number) e) ∙ z)
+
+  pub list-23 : (x : Refusal) (r : Listed) → not b ≡ true → x ≡ refusal 23 0 0 0 → r ≡ listed x 0 0 s → outcome r stage output ≡ listOf s piece stage output
+  list-23 x r n ex = list-stops x r (row-stops _ _ x _ (sym eb ∙ not-true b n) ex) (numbered 23 x ex (λ z. omega arith))
+
+  module _ (n : not b ≡ false) where
+    pub is-sound : soundListing s ≡ true
+    is-sound = sym eb ∙ not-false b n
+
+    pub list-21 : (x : Refusal) (r : Listed) → length stage < 65536 → x ≡ refusal 21 0 0 0 → r ≡ listed x 0 0 s → outcome r stage output ≡ listOf s piece stage output
+    list-21 x r h ex = list-stops x r (row-passes _ _ x _ is-sound (row-stops _ _ x _ (lt-leb 65536 (length stage) h) ex)) (numbered 21 x ex (λ z. omega arith))
+
+    module _ (hs : 65536 ≤ length stage) where
+      pub list-22 : (x : Refusal) (r : Listed) → length output < 126 → x ≡ refusal 22 0 0 0 → r ≡ listed x 0 0 s → outcome r stage output ≡ listOf s piece stage output
+      list-22 x r h ex =
+          list-stops x r (row-passes _ _ x _ is-sound (row-passes _ _ x _ (le-leb 65536 (length stage) hs) (row-stops _ _ x _ (lt-leb 126 (length output) h) ex)))
+          (numbered 22 x ex (λ z. omega arith))
+
+      module _ (ho : 126 ≤ length output) where
+        pub list-error : (r : Listed) → (s .parser .error .number ≡ 0 → ⊥) → r ≡ listed (s .parser .error) 0 0 s → outcome r stage output ≡ listOf s piece stage output
+        list-error r z =
+            list-stops (s .parser .error) r
+            (row-passes _ _ _ _ is-sound (row-passes _ _ _ _ (le-leb 65536 (length stage) hs) (row-passes _ _ _ _ (le-leb 126 (length output) ho)
+            (row-stops _ _ _ _ (ne-eqb (s .parser .error .number) 0 z) refl)))) z
+
+        pub list-lines : (k : ℕ) (r : Listed) (after o2 : List ℕ) → s .parser .error .number ≡ 0 → k ≡ min (limit - readOf s) (length piece)
+            → outcome r after o2 ≡ lines (length (take (k - 0) (drop 0 piece))) s (take (k - 0) (drop 0 piece)) stage output 0 0
+            → outcome r after o2 ≡ listOf s piece stage output
+        unfolding listOf
+        list-lines k r after o2 z ek e =
+            let n : k - 0 ≡ min (limit - readOf s) (length piece) = omega arith in
+            let c : take (k - 0) (drop 0 piece) ≡ readable s piece = ap (λ (j : ℕ). take j piece) n ∙ take-min (limit - readOf s) piece in
+            e
+            ∙ ap (λ (x : List ℕ). lines (length x) s x stage output 0 0) c
+            ∙ sym
+            (ap (λ (t : Bool). pick t (lines (length (readable s piece)) s (readable s piece) stage output 0 0) (outcome (listed (first (listRows s stage output)) 0 0 s) stage output))
+            (pass-all (listRows s stage output)
+            (is-sound, (le-leb 65536 (length stage) hs, (le-leb 126 (length output) ho, (eq-eqb (s .parser .error .number) 0 z, tt))))))
+
+pub ruleset listings = (list-23, list-21, list-22, list-error)
+
+-- ---- the ways out of `names` and `end`
+module _ (v : Refusal) (bytes o : List ℕ) where
+  write-not : (x : Refusal) → x ≡ v → (x .number ≡ 0 → ⊥) → outer.outcome (record { refusal = x; next = 0 }) o ≡ write v bytes o 0
+  unfolding write
+  write-not x e n = simp (ap (λ (y : Refusal). passes y) (sym e) ∙ ne-eqb (x .number) 0 n) (ap (λ (y : Refusal). outer.outcome (record { refusal = y; next = 0 }) o) e)
+
+  write-put : (x : Refusal) (next : ℕ) (o2 : List ℕ) → passes v ≡ true → x ≡ none → Puts o 0 bytes next o2 → outer.outcome (record { refusal = x; next = next }) o2 ≡ write v bytes o 0
+  unfolding write
+  write-put x next o2 f e p = simp f (λ j. outer.outcome (record { refusal = e j; next = p .next j }) (p .bytes j))
+
+not-0 : (n : ℕ) (x : Refusal) → x ≡ refusal n 0 0 0 → (n ≡ 0 → ⊥) → x .number ≡ 0 → ⊥
+not-0 n x e h z = h (sym (ap (λ (y : Refusal). y .number) e) ∙ z)
+
+module _ (o : List ℕ) where
+  pub names-22 : (x : Refusal) → length o < 126 → x ≡ refusal 22 0 0 0 → outer.outcome (record { refusal = x; next = 0 }) o ≡ write (first (roomRow o ∷ [])) names o 0
+  names-22 x h e = write-not _ _ _ x (row-stops _ _ x _ (lt-leb 126 (length o) h) e) (not-0 22 x e (λ z. omega arith))
+
+  pub names-put : (x : Refusal) (next : ℕ) (o2 : List ℕ) → 126 ≤ length o → x ≡ none → Puts o 0 names next o2
+      → outer.outcome (record { refusal = x; next = next }) o2 ≡ write (first (roomRow o ∷ [])) names o 0
+  names-put x next o2 h = write-put _ _ _ x next o2 (pass-all (roomRow o ∷ []) (le-leb 126 (length o) h, tt))
+
+  module _ (s : Listing) (b : Bool) (eb : b ≡ soundListing s) where
+    pub end-23 : (x : Refusal) → not b ≡ true → x ≡ refusal 23 0 0 0
+        → outer.outcome (record { refusal = x; next = 0 }) o ≡ write (first (soundRow s ∷ roomRow o ∷ [])) (endOf s) o 0
+    end-23 x n e = write-not _ _ _ x (row-stops _ _ x _ (sym eb ∙ not-true b n) e) (not-0 23 x e (λ z. omega arith))
+
+    module _ (n : not b ≡ false) where
+      pub end-22 : (x : Refusal) → length o < 126 → x ≡ refusal 22 0 0 0
+          → outer.outcome (record { refusal = x; next = 0 }) o ≡ write (first (soundRow s ∷ roomRow o ∷ [])) (endOf s) o 0
+      end-22 x h e =
+          write-not _ _ _ x (row-passes _ _ x _ (sym eb ∙ not-false b n) (row-stops _ _ x _ (lt-leb 126 (length o) h) e)) (not-0 22 x e (λ z. omega arith))
+
+      pub end-put : (x : Refusal) (next k : ℕ) (o2 : List ℕ) → 126 ≤ length o → x ≡ none → k ≡ bufferedOf (s .parser)
+          → Puts o 0 (ending (s .offset) (s .parser .error .number) k) next o2
+          → outer.outcome (record { refusal = x; next = next }) o2 ≡ write (first (soundRow s ∷ roomRow o ∷ [])) (endOf s) o 0
+      unfolding endOf
+      end-put x next k o2 h e ek p =
+          write-put _ _ _ x next o2 (pass-all (soundRow s ∷ roomRow o ∷ []) (sym eb ∙ not-false b n, (le-leb 126 (length o) h, tt))) e
+          (subst (λ (j : ℕ). Puts o 0 (ending (s .offset) (s .parser .error .number) j) next o2) ek p)
+
+pub ruleset naming = (names-22, names-put)
+
+pub ruleset ends = (end-23, end-22)

@@ -1,0 +1,24 @@
+-- `listing::listing::Listing::room` meets its contract. The count is the bytes held, and reading is within its limit. Assumes nothing.
+use native.Mathlib.Omega.{arith}
+use Rattle.listing.proofs.Cases.{facts, count-is}
+use borrow.Author.Needs.{needs}
+use Rattle.listing.proofs.listing.Listing.room.Statement.{statement}
+use Rattle.listing.proofs.listing.Listing.room.Tie as tie
+
+buffered-requires : tie.Need-buffered-requires
+buffered-requires c κs = search needs
+
+add-least : tie.Need-add-least
+add-least c = omega (arith, count-is (c .before .before .before .args .self) _ (c .before .buffered .ensures) (c .before .before .before .pre), facts (c .before .before .before .args .self) (c .before .before .before .pre) .read)
+
+sub-least : tie.Need-sub-least
+sub-least c = omega (arith, count-is (c .before .before .before .args .self) _ (c .before .buffered .ensures) (c .before .before .before .pre), facts (c .before .before .before .args .self) (c .before .before .before .pre) .read)
+
+least-requires : tie.Need-least-requires
+least-requires c κs = search needs
+
+returns : tie.Need-returns
+returns c = omega (arith, count-is (c .before .before .before .before .args .self) _ (c .before .before .buffered .ensures) (c .before .before .before .before .pre), c .least .ensures)
+
+pub room-spec : {M : Type 1} → statement M
+room-spec = tie.close (tie.spec buffered-requires add-least sub-least least-requires returns)

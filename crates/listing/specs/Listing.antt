@@ -1,0 +1,59 @@
+-- The listing of a capture (01, "The link listing"): its lines, and what a whole input gives.
+use Prim.Native.Nat.{ℕ, zero, suc, _+_, _-_}
+use mathlib.Core.List.{List, [], _∷_, _++_}
+use lib.ListN.{length, take, drop}
+use lib.Dec.{eqb, ltb}
+use Rattle.protocol.specs.Refusals.{pick, passes}
+use Rattle.protocol.specs.Header.{typeOf, epochOf, sequenceOf, lengthOf}
+use Rattle.protocol.specs.Outer.{valueOf}
+use Rattle.record.specs.Record.{headerChecks, payloadChecks}
+use Rattle.decimal.specs.Decimal.{number}
+
+-- ---- the lines; a space is 32, the end of a line 10
+-- `at type epoch sequence length open`
+unfoldable pub names : List ℕ
+names =
+    97 ∷ 116 ∷ 32 ∷ 116 ∷ 121 ∷ 112 ∷ 101 ∷ 32 ∷ 101 ∷ 112 ∷ 111 ∷ 99 ∷ 104 ∷ 32 ∷ 115 ∷ 101 ∷ 113 ∷ 117 ∷ 101 ∷ 110 ∷ 99 ∷ 101 ∷ 32
+    ∷ 108 ∷ 101 ∷ 110 ∷ 103 ∷ 116 ∷ 104 ∷ 32 ∷ 111 ∷ 112 ∷ 101 ∷ 110 ∷ 10 ∷ []
+
+-- byte offset, type, epoch, sequence, payload length, and open as it stands after the record
+unfoldable pub line : ℕ → ℕ → ℕ → ℕ → ℕ → ℕ → List ℕ
+line offset type epoch sequence size o =
+    ((((number offset 32 ++ number type 32) ++ number epoch 32) ++ number sequence 32) ++ number size 32) ++ number o 10
+
+-- `end`, the offset after the last whole record, the refusal or 0, the bytes of an unfinished record
+unfoldable pub ending : ℕ → ℕ → ℕ → List ℕ
+ending offset refusal unfinished = (((101 ∷ 110 ∷ 100 ∷ 32 ∷ []) ++ number offset 32) ++ number refusal 32) ++ number unfinished 10
+
+-- ---- open
+-- 0 after a RESET (3); a DATA (5) adds its length; a CREDIT (9) takes off its value, or all of open if that is less
+unfoldable pub openAfter : ℕ → ℕ → ℕ → List ℕ → ℕ
+openAfter o type size payload =
+    pick (eqb type 3) 0
+    (pick (eqb type 5) (o + size)
+    (pick (eqb type 9) (o - valueOf payload) o))
+
+-- ---- the whole
+-- reading ends at 2^62 bytes
+abbrev pub limit : ℕ
+limit = 4611686018427387904
+
+-- The lines from a record's start on: its offset, open before it, and the bytes b from there. Fewer than 44 bytes, or fewer than the
+-- header's 44 and its payload, are an unfinished record; a header or a payload that its checks refuse ends the listing. A record takes
+-- 44 bytes or more, so that as many records as there are bytes (n) are enough.
+unfoldable pub listFrom : ℕ → ℕ → ℕ → List ℕ → List ℕ
+listFrom zero offset o b = []
+listFrom (suc n) offset o b =
+    let h : List ℕ = take 44 b in
+    let y : List ℕ = take (lengthOf h) (drop 44 b) in
+    let p : ℕ = openAfter o (typeOf h) (lengthOf h) y in
+    pick (ltb (length b) 44) (ending offset 0 (length b))
+    (pick (passes (headerChecks h))
+    (pick (ltb (length b) (44 + lengthOf h)) (ending offset 0 (length b))
+    (pick (passes (payloadChecks (typeOf h) y))
+    (line offset (typeOf h) (epochOf h) (sequenceOf h) (lengthOf h) p ++ listFrom n (offset + (44 + lengthOf h)) p (drop (44 + lengthOf h) b))
+    (ending offset (payloadChecks (typeOf h) y .number) 0)))
+    (ending offset (headerChecks h .number) 0))
+
+unfoldable pub listing : List ℕ → List ℕ
+listing input = names ++ listFrom (suc (length input)) 0 0 (take limit input)
