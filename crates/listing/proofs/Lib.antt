@@ -2,3 +2,4 @@ pub mod Texts
 pub mod Counts
 pub mod Cases
 pub mod Lines
+pub mod Bounds

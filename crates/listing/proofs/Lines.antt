@@ -19,7 +19,7 @@ use Rattle.parser.specs.Push.{bufferedOf}
 use Rattle.parser.proofs.Parts.{part-end, take-min}
 use Rattle.decimal.specs.Decimal.{Puts}
 use Rattle.listing.specs.Listing.{names, ending, limit}
-use Rattle.listing.specs.Steps.{readOf, soundListing, listed, Outcome, outcome, stepOf, lines, soundRow, roomRow, listRows, readable, listOf, endOf}
+use Rattle.listing.specs.Steps.{readOf, soundListing, listed, Outcome, outcome, stepOf, lines, soundRow, roomRow, listRows, readable, listOf, namesOf, endLine, endOf}
 use Rattle.listing.specs.declared.listing.Listing.{Listing}
 use Rattle.listing.specs.declared.listing.Listed.{Listed}
 use Rattle.listing.proofs.Cases.{Facts, facts, Stepped, stepped}
@@ -199,28 +199,28 @@ not-0 : (n : ℕ) (x : Refusal) → x ≡ refusal n 0 0 0 → (n ≡ 0 → ⊥) 
 not-0 n x e h z = h (sym (ap (λ (y : Refusal). y .number) e) ∙ z)
 
 module _ (o : List ℕ) where
-  pub names-22 : (x : Refusal) → length o < 126 → x ≡ refusal 22 0 0 0 → outer.outcome (record { refusal = x; next = 0 }) o ≡ write (first (roomRow o ∷ [])) names o 0
+  pub names-22 : (x : Refusal) → length o < 126 → x ≡ refusal 22 0 0 0 → outer.outcome (record { refusal = x; next = 0 }) o ≡ namesOf o
   names-22 x h e = write-not _ _ _ x (row-stops _ _ x _ (lt-leb 126 (length o) h) e) (not-0 22 x e (λ z. omega arith))
 
   pub names-put : (x : Refusal) (next : ℕ) (o2 : List ℕ) → 126 ≤ length o → x ≡ none → Puts o 0 names next o2
-      → outer.outcome (record { refusal = x; next = next }) o2 ≡ write (first (roomRow o ∷ [])) names o 0
+      → outer.outcome (record { refusal = x; next = next }) o2 ≡ namesOf o
   names-put x next o2 h = write-put _ _ _ x next o2 (pass-all (roomRow o ∷ []) (le-leb 126 (length o) h, tt))
 
   module _ (s : Listing) (b : Bool) (eb : b ≡ soundListing s) where
     pub end-23 : (x : Refusal) → not b ≡ true → x ≡ refusal 23 0 0 0
-        → outer.outcome (record { refusal = x; next = 0 }) o ≡ write (first (soundRow s ∷ roomRow o ∷ [])) (endOf s) o 0
+        → outer.outcome (record { refusal = x; next = 0 }) o ≡ endOf s o
     end-23 x n e = write-not _ _ _ x (row-stops _ _ x _ (sym eb ∙ not-true b n) e) (not-0 23 x e (λ z. omega arith))
 
     module _ (n : not b ≡ false) where
       pub end-22 : (x : Refusal) → length o < 126 → x ≡ refusal 22 0 0 0
-          → outer.outcome (record { refusal = x; next = 0 }) o ≡ write (first (soundRow s ∷ roomRow o ∷ [])) (endOf s) o 0
+          → outer.outcome (record { refusal = x; next = 0 }) o ≡ endOf s o
       end-22 x h e =
           write-not _ _ _ x (row-passes _ _ x _ (sym eb ∙ not-false b n) (row-stops _ _ x _ (lt-leb 126 (length o) h) e)) (not-0 22 x e (λ z. omega arith))
 
       pub end-put : (x : Refusal) (next k : ℕ) (o2 : List ℕ) → 126 ≤ length o → x ≡ none → k ≡ bufferedOf (s .parser)
           → Puts o 0 (ending (s .offset) (s .parser .error .number) k) next o2
-          → outer.outcome (record { refusal = x; next = next }) o2 ≡ write (first (soundRow s ∷ roomRow o ∷ [])) (endOf s) o 0
-      unfolding endOf
+          → outer.outcome (record { refusal = x; next = next }) o2 ≡ endOf s o
+      unfolding endLine
       end-put x next k o2 h e ek p =
           write-put _ _ _ x next o2 (pass-all (soundRow s ∷ roomRow o ∷ []) (sym eb ∙ not-false b n, (le-leb 126 (length o) h, tt))) e
           (subst (λ (j : ℕ). Puts o 0 (ending (s .offset) (s .parser .error .number) j) next o2) ek p)

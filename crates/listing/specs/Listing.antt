@@ -38,9 +38,9 @@ openAfter o type size payload =
 abbrev pub limit : ℕ
 limit = 4611686018427387904
 
--- The lines from a record's start on: its offset, open before it, and the bytes b from there. Fewer than 44 bytes, or fewer than the
--- header's 44 and its payload, are an unfinished record; a header or a payload that its checks refuse ends the listing. A record takes
--- 44 bytes or more, so that as many records as there are bytes (n) are enough.
+-- The lines from a record's start on: its offset, open before it, and the bytes b from there. Fewer than 44 bytes, or a header with fewer
+-- payload bytes than its length, are an unfinished record; a header or a payload that its checks refuse ends the listing. n is how many
+-- records there may be, and one.
 unfoldable pub listFrom : ℕ → ℕ → ℕ → List ℕ → List ℕ
 listFrom zero offset o b = []
 listFrom (suc n) offset o b =
@@ -49,11 +49,15 @@ listFrom (suc n) offset o b =
     let p : ℕ = openAfter o (typeOf h) (lengthOf h) y in
     pick (ltb (length b) 44) (ending offset 0 (length b))
     (pick (passes (headerChecks h))
-    (pick (ltb (length b) (44 + lengthOf h)) (ending offset 0 (length b))
+    (pick (ltb (length (drop 44 b)) (lengthOf h)) (ending offset 0 (length b))
     (pick (passes (payloadChecks (typeOf h) y))
     (line offset (typeOf h) (epochOf h) (sequenceOf h) (lengthOf h) p ++ listFrom n (offset + (44 + lengthOf h)) p (drop (44 + lengthOf h) b))
     (ending offset (payloadChecks (typeOf h) y .number) 0)))
     (ending offset (headerChecks h .number) 0))
 
+-- a record takes 44 bytes or more, so that there are no more records than bytes
+abbrev pub linesFrom : ℕ → ℕ → List ℕ → List ℕ
+linesFrom offset o b = listFrom (suc (length b)) offset o b
+
 unfoldable pub listing : List ℕ → List ℕ
-listing input = names ++ listFrom (suc (length input)) 0 0 (take limit input)
+listing input = names ++ linesFrom 0 0 (take limit input)

@@ -6,7 +6,8 @@ use lib.ListN.{length, take, drop}
 use lib.Dec.{leb, ltb}
 use Rattle.protocol.specs.Bytes.{overlay}
 use Rattle.protocol.specs.Refusals.{pick, refusal, none, first, passes}
-use Rattle.protocol.specs.Outer.{maxPayload}
+use Rattle.protocol.specs.Outer as outer
+use Rattle.protocol.specs.Outer.{maxPayload, write}
 use Rattle.protocol.specs.declared.refusal.Refusal.{Refusal}
 use Rattle.record.specs.Types.{codeOf}
 use Rattle.record.specs.declared.record.Record.{Record}
@@ -14,7 +15,7 @@ use Rattle.parser.specs.Push as parser
 use Rattle.parser.specs.Push.{soundParser, pushOf, bufferedOf, payloadAt}
 use Rattle.parser.specs.declared.parser.RecordParser.{RecordParser}
 use Rattle.parser.specs.declared.parser.Pushed.{Pushed}
-use Rattle.listing.specs.Listing.{line, ending, openAfter, limit}
+use Rattle.listing.specs.Listing.{names, line, ending, openAfter, limit}
 use Rattle.listing.specs.declared.listing.Listing.{Listing}
 use Rattle.listing.specs.declared.listing.Listed.{Listed}
 
@@ -111,7 +112,15 @@ listOf s piece stage output =
     (lines (length (readable s piece)) s (readable s piece) stage output 0 0)
     (outcome (listed (first (listRows s stage output)) 0 0 s) stage output)
 
--- ---- the last line
+-- ---- the line of names and the last line
+-- 22, or the names
+abbrev pub namesOf : List ℕ → outer.Outcome
+namesOf output = write (first (roomRow output ∷ [])) names output 0
+
 -- the unfinished record's bytes are those that the parser holds: none after a refusal
-unfoldable pub endOf : Listing → List ℕ
-endOf s = ending (s .offset) (s .parser .error .number) (bufferedOf (s .parser))
+unfoldable pub endLine : Listing → List ℕ
+endLine s = ending (s .offset) (s .parser .error .number) (bufferedOf (s .parser))
+
+-- 23, 22, or the last line
+abbrev pub endOf : Listing → List ℕ → outer.Outcome
+endOf s output = write (first (soundRow s ∷ roomRow output ∷ [])) (endLine s) output 0

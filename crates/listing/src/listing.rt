@@ -12,16 +12,12 @@ use protocol::outer::value;
 use protocol::refusal::Refusal;
 ghost use mathlib.Core.Path.{_≡_};
 ghost use mathlib.Core.Bool.{true};
-ghost use mathlib.Core.List.{[], _∷_};
 ghost use Prim.Native.Nat.{_+_, _-_, _^_, _≤_, _<_, min};
 ghost use lib.ListN.{length};
 ghost use Rattle.protocol.specs.Bytes.{overlay};
-ghost use Rattle.protocol.specs.Refusals.{first};
 ghost use Rattle.protocol.specs.Outer as outer;
-ghost use Rattle.protocol.specs.Outer.{write};
-ghost use Rattle.parser.specs.Push.{pushOf, bufferedOf};
-ghost use Rattle.listing.specs.Listing.{limit, names, openAfter};
-ghost use Rattle.listing.specs.Steps.{fresh, readOf, soundListing, listed, lineOf, recordListed, stepOf, lines, listOf, outcome, roomRow, soundRow, endOf};
+ghost use Rattle.listing.specs.Listing.{limit, openAfter};
+ghost use Rattle.listing.specs.Steps.{fresh, readOf, soundListing, listed, lineOf, recordListed, stepOf, lines, listOf, outcome, namesOf, endOf};
 
 // The room that a line may take: six numbers of up to 20 digits, and a byte after each.
 pub const LINE: usize = 126;
@@ -200,7 +196,7 @@ fn list_records(start: Listing, piece: &[u8], stage: &mut [u8], output: &mut [u8
 
 // The line of names.
 pub fn names(output: &mut [u8]) -> Written
-    ensures { λ r. ⌜ outer.outcome r (now (output .exit)) ≡ write (first (roomRow (now (output .entry)) ∷ [])) names (now (output .entry)) 0 ⌝ }
+    ensures { λ r. ⌜ outer.outcome r (now (output .exit)) ≡ namesOf (now (output .entry)) ⌝ }
 {
     if output.len() < LINE {
         return Written {
@@ -281,7 +277,7 @@ impl Listing {
 
     // The last line.
     pub fn end(self, output: &mut [u8]) -> Written
-        ensures { λ r. ⌜ outer.outcome r (now (output .exit)) ≡ write (first (soundRow self ∷ roomRow (now (output .entry)) ∷ [])) (endOf self) (now (output .entry)) 0 ⌝ }
+        ensures { λ r. ⌜ outer.outcome r (now (output .exit)) ≡ endOf self (now (output .entry)) ⌝ }
     {
         if !self.is_sound() {
             return Written {

@@ -1,0 +1,4 @@
+pub mod Scanned
+pub mod Futures
+pub mod Runs
+pub mod Claims

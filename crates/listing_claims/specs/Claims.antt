@@ -1,0 +1,57 @@
+-- What is claimed of the listing over whole captures (01, "The link listing"), gathered in `ListingClaims`.
+use Prim.Native.Nat.{ℕ, _≤_, _<_}
+use mathlib.Core.Path.{_≡_}
+use mathlib.Core.Bool.{true}
+use mathlib.Core.List.{List, [], _∷_, _++_}
+use lib.ListN.{length, take}
+use Rattle.protocol.specs.Refusals.{passes}
+use Rattle.protocol.specs.Outer as outer
+use Rattle.protocol.specs.Outer.{maxPayload}
+use Rattle.listing.specs.Listing.{limit, listing}
+use Rattle.listing.specs.Steps.{fresh, readOf, soundListing, lineRoom, listOf, namesOf, endOf}
+use Rattle.listing.specs.Calls.{Calls, Ended}
+use Rattle.listing.specs.declared.listing.Listing.{Listing}
+use Rattle.listing_claims.specs.Example.{capture, printed}
+
+-- texts one after the other
+unfoldable pub joined : List (List ℕ) → List ℕ
+joined [] = []
+joined (x ∷ xs) = x ++ joined xs
+
+-- what a call that writes one line has written
+abbrev pub text : outer.Outcome → List ℕ
+text o = take (o .answer .next) (o .output)
+
+-- However the input is cut into pieces, and whatever outputs with room for a line and whatever stage are lent: the line of names, what
+-- the calls of `list` write until nothing more is read, and the last line are together the listing of the input.
+abbrev pub OutputIsListing : Type 0
+OutputIsListing =
+    (input left stage after front back : List ℕ) (t : Listing) (texts : List (List ℕ))
+    → maxPayload ≤ length stage → lineRoom ≤ length front → lineRoom ≤ length back → Calls fresh stage input left t after texts → Ended t left
+    → text (namesOf front) ++ (joined texts ++ text (endOf t back)) ≡ listing input
+
+-- No listing that calls leave is unsound.
+abbrev pub NeverUnsound : Type 0
+NeverUnsound =
+    (input left stage after : List ℕ) (t : Listing) (texts : List (List ℕ))
+    → maxPayload ≤ length stage → Calls fresh stage input left t after texts → soundListing t ≡ true
+
+-- A call that is lent bytes before reading ends takes one or more, or answers a refusal; so the calls come to an end.
+abbrev pub TakesSome : Type 0
+TakesSome =
+    (s : Listing) (piece stage output : List ℕ) → 0 < length piece → readOf s < limit → passes (listOf s piece stage output .listed .refusal) ≡ true
+    → 0 < listOf s piece stage output .listed .taken
+
+-- Bytes from 2^62 on change nothing.
+abbrev pub ReadingEnds : Type 0
+ReadingEnds = (input : List ℕ) → listing (take limit input) ≡ listing input
+
+pub record ListingClaims : Type 0 where
+  -- 01: "A program reads from standard input a capture .. It prints a line of names, then a line of values for each record .. The last line"
+  pub output : OutputIsListing
+  pub sound : NeverUnsound
+  pub some : TakesSome
+  -- 01: "Reading ends at 2^62 bytes as at the end of the input"
+  pub ends : ReadingEnds
+  -- 01: "For a RESET .. it is"
+  pub example : listing capture ≡ printed

@@ -1,0 +1,107 @@
+// Lists the records of a capture: standard input to standard output (01, "The link listing").
+use listing::listing::LIMIT;
+use listing::listing::Listing;
+use listing::listing::names;
+ghost use mathlib.Core.Path.{_≡_};
+ghost use Prim.Native.Nat.{_≤_};
+ghost use lib.ListN.{length};
+
+// The listing after a piece, and whether there is more to read: not after a refusal, at the end of
+// reading, or where the output is closed.
+struct Fed {
+    listing: Listing,
+    more: bool,
+}
+
+// Writes the first bytes of the output, and answers whether all went out.
+fn flush(output: &[u8], count: usize) -> bool {
+    if count <= output.len() {
+        return io::write_all(1, &output[0..count]);
+    }
+    false
+}
+
+// A piece, listed and written as often as it takes.
+fn feed(start: Listing, piece: &[u8], stage: &mut [u8], output: &mut [u8]) -> Fed {
+    let mut listing = start;
+    let mut taken: usize = 0;
+    while taken < piece.len() {
+        let r = listing.list(&piece[taken..], stage, output);
+        let next = r.listing;
+        listing = next;
+        if !flush(output, r.written) {
+            return Fed {
+                listing,
+                more: false,
+            };
+        }
+        if r.refusal.number != 0 {
+            return Fed {
+                listing,
+                more: false,
+            };
+        }
+        if r.taken == 0 {
+            return Fed {
+                listing,
+                more: false,
+            };
+        }
+        taken += r.taken;
+    }
+    Fed {
+        listing,
+        more: true,
+    }
+}
+
+// The first bytes of what was read.
+fn feed_first(
+    start: Listing,
+    buffer: &[u8],
+    count: usize,
+    stage: &mut [u8],
+    output: &mut [u8],
+) -> Fed
+    requires { ⌜ count ≤ length (now buffer) ⌝ }
+{
+    feed(start, &buffer[0..count], stage, output)
+}
+
+// Reads to the end, where a read that fails is one, and lists. Each turn but the last reads a byte
+// or more, so that LIMIT turns are enough.
+fn read_all(output: &mut [u8]) -> Listing {
+    let mut stage = [0u8; 65536];
+    let mut buffer = [0u8; 262144];
+    let mut listing = Listing::new();
+    let mut turns = LIMIT;
+    while 0 < turns {
+        turns -= 1;
+        let got = libc::read(0, &mut buffer);
+        if got < 0 {
+            io::write_all(2, b"nvxs_list: standard input cannot be read\n");
+            return listing;
+        }
+        let count = io::count(got, &buffer);
+        if count == 0 {
+            return listing;
+        }
+        let fed = feed_first(listing, &buffer, count, &mut stage, output);
+        let next = fed.listing;
+        listing = next;
+        if !fed.more {
+            return listing;
+        }
+    }
+    listing
+}
+
+fn main() {
+    let mut output = [0u8; 65536];
+    let first = names(&mut output);
+    if flush(&output, first.next) {
+        let listing = read_all(&mut output);
+        let last = listing.end(&mut output);
+        flush(&output, last.next);
+    }
+}
