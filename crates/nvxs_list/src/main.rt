@@ -3,8 +3,10 @@ use listing::listing::LIMIT;
 use listing::listing::Listing;
 use listing::listing::names;
 ghost use mathlib.Core.Path.{_≡_};
-ghost use Prim.Native.Nat.{_≤_};
-ghost use lib.ListN.{length};
+ghost use mathlib.Core.Bool.{true};
+ghost use Prim.Native.Nat.{_≤_, _<_};
+ghost use lib.ListN.{length, take};
+ghost use Rattle.nvxs_list.specs.Feeding.{Feeds};
 
 // The listing after a piece, and whether there is more to read: not after a refusal, at the end of
 // reading, or where the output is closed.
@@ -21,33 +23,38 @@ fn flush(output: &[u8], count: usize) -> bool {
     false
 }
 
+// Whether there is more to list: what was written went out, nothing was refused, and bytes were taken.
+fn goes_on(out: bool, number: u8, taken: usize) -> bool
+    ensures { λ r. ⌜ (r ≡ true → 0 < taken) ⌝ }
+{
+    if !out {
+        return false;
+    }
+    if number != 0 {
+        return false;
+    }
+    0 < taken
+}
+
 // A piece, listed and written as often as it takes.
-fn feed(start: Listing, piece: &[u8], stage: &mut [u8], output: &mut [u8]) -> Fed {
+fn feed(start: Listing, piece: &[u8], stage: &mut [u8], output: &mut [u8]) -> Fed
+    requires { ⌜ 126 ≤ length (now output) ⌝ }
+    ensures { λ r. ⌜ Feeds start (now (piece .entry)) (now (stage .entry)) r (now (stage .exit)) ⌝ }
+{
     let mut listing = start;
     let mut taken: usize = 0;
     while taken < piece.len() {
         let r = listing.list(&piece[taken..], stage, output);
         let next = r.listing;
         listing = next;
-        if !flush(output, r.written) {
-            return Fed {
-                listing,
-                more: false,
-            };
-        }
-        if r.refusal.number != 0 {
-            return Fed {
-                listing,
-                more: false,
-            };
-        }
-        if r.taken == 0 {
-            return Fed {
-                listing,
-                more: false,
-            };
-        }
         taken += r.taken;
+        let out = flush(output, r.written);
+        if !goes_on(out, r.refusal.number, r.taken) {
+            return Fed {
+                listing,
+                more: false,
+            };
+        }
     }
     Fed {
         listing,
@@ -63,14 +70,17 @@ fn feed_first(
     stage: &mut [u8],
     output: &mut [u8],
 ) -> Fed
-    requires { ⌜ count ≤ length (now buffer) ⌝ }
+    requires { ⌜ (count ≤ length (now buffer)) × (126 ≤ length (now output)) ⌝ }
+    ensures { λ r. ⌜ Feeds start (take count (now (buffer .entry))) (now (stage .entry)) r (now (stage .exit)) ⌝ }
 {
     feed(start, &buffer[0..count], stage, output)
 }
 
 // Reads to the end, where a read that fails is one, and lists. Each turn but the last reads a byte
 // or more, so that LIMIT turns are enough.
-fn read_all(output: &mut [u8]) -> Listing {
+fn read_all(output: &mut [u8]) -> Listing
+    requires { ⌜ 126 ≤ length (now output) ⌝ }
+{
     let mut stage = [0u8; 65536];
     let mut buffer = [0u8; 262144];
     let mut listing = Listing::new();

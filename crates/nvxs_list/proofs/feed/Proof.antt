@@ -1,99 +1,66 @@
+-- `nvxs_list::feed` meets its contract. The loop's invariant, `Fed-so-far` of proofs/Feeding: the calls so far were lent the piece's first bytes. The measure is the bytes that are left, of which each turn but the last takes one or more. Assumes nothing.
+use Prim.Native.Nat.{_-_}
+use native.Mathlib.Omega.{arith}
+use lib.ListN.{length}
+use borrow.Author.Tests.{not-false}
+use borrow.Author.Needs.{needs}
+use Rattle.nvxs_list.proofs.Feeding.{Fed-so-far, fed-first, fed-within, fed-more, feeds-stop, feeds-all}
 use Rattle.nvxs_list.proofs.feed.Statement.{statement}
 use Rattle.nvxs_list.proofs.feed.Tie as tie
-use Rattle.nvxs_list.proofs.feed.Reads as reads
-use Rattle.nvxs_list.proofs.feed.Lts as lts
-use Rattle.listing.proofs.listing.Listing.list.Reads as list-reads
-use Rattle.nvxs_list.proofs.flush.Reads as flush-reads
 
 abbrev Inv-loop : tie.InvT-loop
-Inv-loop piece stage₀ output₀ listing₀ taken₀ stage output listing taken = ?
+Inv-loop piece stage₀ output₀ listing₀ taken₀ stage output listing taken = Fed-so-far listing₀ piece stage₀ output₀ listing stage output taken
 
 abbrev μ-loop : tie.MeasureT-loop
-μ-loop piece stage₀ output₀ listing₀ taken₀ stage output listing taken = ?
+μ-loop piece stage₀ output₀ listing₀ taken₀ stage output listing taken = length piece - taken
 
--- src/main.rt:28:5
 loop-holds : tie.Need-loop-holds Inv-loop μ-loop
-loop-holds c = ?
+loop-holds c = fed-first _ _ _ _
 
--- src/main.rt:29:30
 sub-list : tie.Need-sub-list Inv-loop μ-loop
-sub-list c = ?
+sub-list c = c .before .loop .inv .within
 
--- src/main.rt:29:30
 part-list-start : tie.Need-part-list-start Inv-loop μ-loop
-part-list-start c = ?
+part-list-start c = search needs
 
--- src/main.rt:29:30
 part-list-end : tie.Need-part-list-end Inv-loop μ-loop
-part-list-end c = ?
+part-list-end c = search needs
 
--- src/main.rt:29:13
 list-requires : tie.Need-list-requires Inv-loop μ-loop
-list-requires c κs = ?
+list-requires c κs = search needs
 
--- src/main.rt:32:13
-flush-requires : tie.Need-flush-requires Inv-loop μ-loop
-flush-requires c κs = ?
-
--- src/main.rt:33:13
-same-length : tie.Need-same-length Inv-loop μ-loop
-same-length c = ?
-
--- src/main.rt:33:13
-same-length-2 : tie.Need-same-length-2 Inv-loop μ-loop
-same-length-2 c = ?
-
--- src/main.rt:33:13
-returns : tie.Need-returns Inv-loop μ-loop
-returns c = ?
-
--- src/main.rt:39:13
-same-length-3 : tie.Need-same-length-3 Inv-loop μ-loop
-same-length-3 c = ?
-
--- src/main.rt:39:13
-same-length-4 : tie.Need-same-length-4 Inv-loop μ-loop
-same-length-4 c = ?
-
--- src/main.rt:39:13
-returns-2 : tie.Need-returns-2 Inv-loop μ-loop
-returns-2 c = ?
-
--- src/main.rt:45:13
-same-length-5 : tie.Need-same-length-5 Inv-loop μ-loop
-same-length-5 c = ?
-
--- src/main.rt:45:13
-same-length-6 : tie.Need-same-length-6 Inv-loop μ-loop
-same-length-6 c = ?
-
--- src/main.rt:45:13
-returns-3 : tie.Need-returns-3 Inv-loop μ-loop
-returns-3 c = ?
-
--- src/main.rt:50:9
 add-taken : tie.Need-add-taken Inv-loop μ-loop
-add-taken c = ?
+add-taken c = omega (arith, c .before .before .before .before .before .before .before .before .before .before .before .before .before .before .before .good .1 .0 .0, fed-within (c .before .before .before .before .before .before .before .before .before .before .before .loop .inv) (c .before .before .before .before .before .before .list .result) _ _ (c .before .before .before .before .before .before .before .before .before .before .before .before .before .before .before .pre) (c .before .before .before .before .before .before .list .ensures))
 
--- src/main.rt:28:5
+flush-requires : tie.Need-flush-requires Inv-loop μ-loop
+flush-requires c κs = search needs
+
+goes-on-requires : tie.Need-goes-on-requires Inv-loop μ-loop
+goes-on-requires c κs = search needs
+
+same-length : tie.Need-same-length Inv-loop μ-loop
+same-length c = fed-more (c .before .before .before .before .before .before .before .before .before .before .before .before .before .before .before .loop .inv) (c .before .before .before .before .before .before .before .before .before .before .list .result) _ _ (c .before .before .before .before .before .before .before .before .before .before .before .before .before .before .before .before .before .before .before .pre) (c .before .before .before .before .before .before .before .before .before .before .list .ensures) (search needs) (search needs) .stage-size
+
+same-length-2 : tie.Need-same-length-2 Inv-loop μ-loop
+same-length-2 c = fed-more (c .before .before .before .before .before .before .before .before .before .before .before .before .before .before .before .loop .inv) (c .before .before .before .before .before .before .before .before .before .before .list .result) _ _ (c .before .before .before .before .before .before .before .before .before .before .before .before .before .before .before .before .before .before .before .pre) (c .before .before .before .before .before .before .before .before .before .before .list .ensures) (search needs) (search needs) .output-size
+
+returns : tie.Need-returns Inv-loop μ-loop
+returns c = feeds-stop (fed-more (c .before .before .before .before .before .before .before .before .before .before .before .before .before .before .before .loop .inv) (c .before .before .before .before .before .before .before .before .before .before .list .result) _ _ (c .before .before .before .before .before .before .before .before .before .before .before .before .before .before .before .before .before .before .before .pre) (c .before .before .before .before .before .before .before .before .before .before .list .ensures) (search needs) (search needs))
+
 loop-less : tie.Need-loop-less Inv-loop μ-loop
-loop-less c = ?
+loop-less c = omega (arith, fed-within (c .before .before .before .before .before .before .before .before .before .before .before .before .before .before .before .loop .inv) (c .before .before .before .before .before .before .before .before .before .before .list .result) _ _ (c .before .before .before .before .before .before .before .before .before .before .before .before .before .before .before .before .before .before .before .pre) (c .before .before .before .before .before .before .before .before .before .before .list .ensures), c .before .goes-on .ensures (not-false _ (c .if1 .left)))
 
--- src/main.rt:28:5
 loop-again : tie.Need-loop-again Inv-loop μ-loop
-loop-again c = ?
+loop-again c = fed-more (c .before .before .before .before .before .before .before .before .before .before .before .before .before .before .before .loop .inv) (c .before .before .before .before .before .before .before .before .before .before .list .result) _ _ (c .before .before .before .before .before .before .before .before .before .before .before .before .before .before .before .before .before .before .before .pre) (c .before .before .before .before .before .before .before .before .before .before .list .ensures) (search needs) (search needs)
 
--- src/main.rt:25:1
-same-length-7 : tie.Need-same-length-7 Inv-loop μ-loop
-same-length-7 c = ?
+same-length-3 : tie.Need-same-length-3 Inv-loop μ-loop
+same-length-3 c = c .before .loop .inv .stage-size
 
--- src/main.rt:25:1
-same-length-8 : tie.Need-same-length-8 Inv-loop μ-loop
-same-length-8 c = ?
+same-length-4 : tie.Need-same-length-4 Inv-loop μ-loop
+same-length-4 c = c .before .loop .inv .output-size
 
--- src/main.rt:25:1
-returns-4 : tie.Need-returns-4 Inv-loop μ-loop
-returns-4 c = ?
+returns-2 : tie.Need-returns-2 Inv-loop μ-loop
+returns-2 c = feeds-all (c .before .loop .inv) (c .loop-test .left)
 
 pub feed-spec : {M : Type 1} → statement M
 feed-spec =
@@ -106,19 +73,14 @@ feed-spec =
     part-list-start
     part-list-end
     list-requires
+    add-taken
     flush-requires
+    goes-on-requires
     same-length
     same-length-2
     returns
-    same-length-3
-    same-length-4
-    returns-2
-    same-length-5
-    same-length-6
-    returns-3
-    add-taken
     loop-less
     loop-again
-    same-length-7
-    same-length-8
-    returns-4)
+    same-length-3
+    same-length-4
+    returns-2)
