@@ -1,5 +1,5 @@
 # make test: every check of the repository; its last line is that of rt ci.
-# make run:  prove and run the worked examples of the plain layer and of records.
+# make run:  prove and build the link listing, and list a sample; CAPTURE=file lists any file.
 .DEFAULT_GOAL := test
 .PHONY: test run rt-present differential-where-present
 MAKEFLAGS += --no-print-directory
@@ -12,10 +12,11 @@ test: rt-present
 	@$(MAKE) differential-where-present
 	@rt ci
 
+CAPTURE ?= samples/reattachment.nvxs
+
 run: rt-present
-	@rt check outer_vectors record_vectors
-	@target/bin/outer_vectors
-	@target/bin/record_vectors
+	@rt check nvxs_list >&2
+	@target/bin/nvxs_list < $(CAPTURE)
 
 rt-present:
 	@command -v rt >/dev/null || { echo 'rt, the command of the Rattle kit, is not on the PATH' >&2; exit 1; }
@@ -34,3 +35,7 @@ endif
 
 # Gives the targets differential, slips and replay-list.
 -include tests/differential/differential.mk
+# Gives the targets listing-differential and listing-large.
+-include tests/listing/listing.mk
+# Gives the target bench-listing.
+-include bench/listing/listing.mk
