@@ -9,8 +9,7 @@ test: rt-present
 	@rt fmt --check
 	@echo 'fmt: every file is in the layout'
 	@tests/types/run
-	@$(MAKE) differential-where-present
-	@rt ci
+	@tests/ci
 
 CAPTURE ?= samples/reattachment.nvxs
 
@@ -31,6 +30,7 @@ else ifeq ($(wildcard $(REFERENCE)/.),)
 	@echo 'differential: NOT RUN: there is no $(REFERENCE)'
 else
 	@$(MAKE) differential CALLS=200000 SEED=1
+	@$(MAKE) listing-differential CAPTURES=10000 LISTING_SEED=1
 endif
 
 # Gives the targets differential, slips and replay-list.

@@ -9,9 +9,9 @@ use lib.ListN.{length, take, drop, length-append, length-take, length-drop, take
 use lib.Seq.{take-at, take-all}
 use lib.Dec.{ltb}
 use borrow.Author.Tests.{lt-ltb, le-ltb, eq-eqb, ne-eqb}
-use Rattle.protocol.specs.Refusals.{pick, none, passes}
-use Rattle.protocol.specs.Header.{lengthOf}
-use Rattle.protocol.specs.declared.refusal.Refusal.{Refusal}
+use Rattle.wire.specs.Refusals.{pick, none, passes}
+use Rattle.wire.specs.Header.{lengthOf}
+use Rattle.wire.specs.declared.refusal.Refusal.{Refusal}
 use Rattle.record.specs.Record.{recordOf}
 use Rattle.record.specs.declared.record.Record.{Record}
 use Rattle.parser.specs.Push.{Push, parserOf, push, headWith, pushStage, pushOf, heldIn, neededOf, bufferedOf}

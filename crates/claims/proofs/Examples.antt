@@ -3,11 +3,11 @@
 use mathlib.Core.Path.{refl}
 use lib.ListN.{length}
 use borrow.Author.Tests.{le-leb}
-use Rattle.protocol.specs.Bytes.{fromLe, toLe, overlay}
-use Rattle.protocol.specs.Refusals.{first}
-use Rattle.protocol.specs.Header.{magicOf, versionOf, typeOf, flagsOf, instanceOf, epochOf, sequenceOf, lengthOf, headerBytes}
+use Rattle.wire.specs.Bytes.{fromLe, toLe, overlay}
+use Rattle.wire.specs.Refusals.{first}
+use Rattle.wire.specs.Header.{magicOf, versionOf, typeOf, flagsOf, instanceOf, epochOf, sequenceOf, lengthOf, headerBytes}
 use Rattle.protocol.specs.Outer.{windowOk, creditOk, valueOf, write}
-use Rattle.record.specs.Types.{typeAt, lengthOk}
+use Rattle.types.specs.Types.{typeAt, lengthOk}
 use Rattle.record.specs.Record.{allZero, payloadChecks, headerChecks, recordWith, encodeRecord}
 use Rattle.parser.specs.Push.{countsOk, errorOk, soundParser, finish, pushBody, headWith, pushHead, push, neededOf, counted}
 use Rattle.session.specs.Checks.{same, identityOk, holds}

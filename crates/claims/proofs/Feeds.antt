@@ -8,10 +8,10 @@ use native.Mathlib.Omega.{arith}
 use lib.ListN.{length, take, length-append, length-take}
 use lib.Dec.{eqb}
 use borrow.Author.Tests.{eq-eqb}
-use Rattle.protocol.specs.Refusals.{pick, passes}
-use Rattle.protocol.specs.Header.{headerBytes}
-use Rattle.protocol.specs.declared.refusal.Refusal.{Refusal}
-use Rattle.record.specs.Types.{codeOf}
+use Rattle.wire.specs.Refusals.{pick, passes}
+use Rattle.wire.specs.Header.{headerBytes}
+use Rattle.wire.specs.declared.refusal.Refusal.{Refusal}
+use Rattle.types.specs.Types.{codeOf}
 use Rattle.record.specs.Record.{recordOf}
 use Rattle.parser.specs.Push.{Push, push, headWith, pushStage, pushOf, heldIn, fresh}
 use Rattle.parser.specs.declared.parser.RecordParser.{RecordParser}

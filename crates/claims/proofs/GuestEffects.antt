@@ -8,12 +8,12 @@ use native.Mathlib.Omega.{arith}
 use lib.ListN.{length}
 use lib.Dec.{leb, eqb}
 use borrow.Author.Tests.{leb-true, eqb-true, ne-eqb}
-use Rattle.protocol.specs.Bytes.{Octets}
-use Rattle.protocol.specs.Refusals.{refusal, none, first, passes}
+use Rattle.wire.specs.Bytes.{Octets}
+use Rattle.wire.specs.Refusals.{refusal, none, first, passes}
 use Rattle.protocol.specs.Outer.{maxPayload, windowOk}
-use Rattle.protocol.specs.declared.refusal.Refusal.{Refusal}
-use Rattle.protocol.proofs.Rows.{Passed, Numbered, passed, picked, and-left, and-right}
-use Rattle.record.specs.Types.{codeOf}
+use Rattle.wire.specs.declared.refusal.Refusal.{Refusal}
+use Rattle.wire.proofs.Rows.{Passed, Numbered, passed, picked, and-left, and-right}
+use Rattle.types.specs.Types.{codeOf}
 use Rattle.parser.specs.Push.{Push, push, pushStage, headWith, heldIn, bufferedOf}
 use Rattle.parser.specs.declared.parser.Place.the-variants.{Piece}
 use Rattle.session.specs.Checks.{noIdentity, identityOf}

@@ -6,11 +6,11 @@ use mathlib.Core.Path.{_≡_, refl, ap, _∙_}
 use mathlib.Core.List.{List, [], _∷_, _++_}
 use lib.ListN.{length, replicate}
 use lib.Dec.{lit<}
-use Rattle.protocol.specs.Bytes.{fromLe, toLe, overlay, Octets, end, octet}
-use Rattle.protocol.specs.Refusals.{refusal, none, first}
-use Rattle.protocol.specs.Header.{magicOf, versionOf, typeOf, flagsOf, instanceOf, epochOf, sequenceOf, lengthOf, headerBytes}
+use Rattle.wire.specs.Bytes.{fromLe, toLe, overlay, Octets, end, octet}
+use Rattle.wire.specs.Refusals.{refusal, none, first}
+use Rattle.wire.specs.Header.{magicOf, versionOf, typeOf, flagsOf, instanceOf, epochOf, sequenceOf, lengthOf, headerBytes}
 use Rattle.protocol.specs.Outer.{windowOk, creditOk, valueOf}
-use Rattle.record.specs.Types.{typeAt, lengthOk}
+use Rattle.types.specs.Types.{typeAt, lengthOk}
 use Rattle.record.specs.Record.{allZero, payloadChecks, headerChecks, recordWith, recordBytes}
 use Rattle.parser.specs.Push.{countsOk, errorOk, soundParser, finish, pushBody, headWith, pushHead, push}
 use Rattle.parser.specs.declared.parser.Place.the-variants.{Piece}

@@ -8,10 +8,10 @@ use native.Mathlib.Omega.{arith}
 use lib.ListN.{length, length-take}
 use lib.Dec.{leb, eqb}
 use borrow.Author.Tests.{leb-true, leb-false, eqb-true, le-leb, eq-eqb, ne-eqb}
-use Rattle.protocol.specs.Bytes.{Octets}
-use Rattle.protocol.specs.Refusals.{passes}
+use Rattle.wire.specs.Bytes.{Octets}
+use Rattle.wire.specs.Refusals.{passes}
 use Rattle.protocol.specs.Outer.{maxPayload}
-use Rattle.protocol.proofs.Rows.{and-left, and-right}
+use Rattle.wire.proofs.Rows.{and-left, and-right}
 use Rattle.parser.specs.Push.{countsOk, errorOk, soundParser, heldIn}
 use Rattle.parser.specs.declared.parser.RecordParser.{RecordParser}
 use Rattle.session.specs.Checks.{holds}

@@ -4,7 +4,7 @@ use Prim.Native.Nat.{ℕ}
 use mathlib.Core.Path.{_≡_, refl, sym, ap, _∙_}
 use mathlib.Core.Bool.{false}
 use mathlib.Core.List.{List, [], _∷_, _++_}
-use Rattle.protocol.specs.Refusals.{none}
+use Rattle.wire.specs.Refusals.{none}
 use Rattle.record.specs.Record.{recordOf}
 use Rattle.parser.specs.Push.{parserOf, heldIn}
 use Rattle.guest.specs.State.{isFailed, resetGuest}

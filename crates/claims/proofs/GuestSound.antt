@@ -8,11 +8,11 @@ use native.Mathlib.Omega.{arith}
 use lib.ListN.{length, replicate}
 use lib.Dec.{leb, eqb}
 use borrow.Author.Tests.{leb-true, eqb-false, le-leb, lt-leb}
-use Rattle.protocol.specs.Bytes.{Octets}
-use Rattle.protocol.specs.Refusals.{refusal, none, first, passes}
+use Rattle.wire.specs.Bytes.{Octets}
+use Rattle.wire.specs.Refusals.{refusal, none, first, passes}
 use Rattle.protocol.specs.Outer.{maxPayload, windowOk}
-use Rattle.protocol.specs.declared.refusal.Refusal.{Refusal}
-use Rattle.protocol.proofs.Rows.{picked, and-right}
+use Rattle.wire.specs.declared.refusal.Refusal.{Refusal}
+use Rattle.wire.proofs.Rows.{picked, and-right}
 use Rattle.parser.specs.Push.{parserOf, countsOk, errorOk, soundParser, Push, headTaken, headWith, heldIn}
 use Rattle.parser.specs.declared.parser.RecordParser.{RecordParser}
 use Rattle.session.specs.Checks.{holds}

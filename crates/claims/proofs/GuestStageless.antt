@@ -10,11 +10,11 @@ use lib.ListN.{length, take, drop, length-take}
 use lib.Seq.{drop-at, take-at}
 use lib.Dec.{leb, eqb}
 use borrow.Author.Tests.{leb-true}
-use Rattle.protocol.specs.Bytes.{overlay}
-use Rattle.protocol.specs.Refusals.{pick, refusal, none, first, passes}
+use Rattle.wire.specs.Bytes.{overlay}
+use Rattle.wire.specs.Refusals.{pick, refusal, none, first, passes}
 use Rattle.protocol.specs.Outer.{maxPayload, windowOk}
-use Rattle.protocol.specs.declared.refusal.Refusal.{Refusal}
-use Rattle.protocol.proofs.Rows.{passed, picked}
+use Rattle.wire.specs.declared.refusal.Refusal.{Refusal}
+use Rattle.wire.proofs.Rows.{passed, picked}
 use Rattle.parser.specs.Push.{heldIn, payloadAt, bufferedOf}
 use Rattle.session.specs.Checks.{nextRow}
 use Rattle.guest.specs.State.{isDetached, isResetting, isActive, isEnded, soundGuest}

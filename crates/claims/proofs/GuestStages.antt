@@ -6,11 +6,11 @@ use mathlib.Core.Bool.{true}
 use mathlib.Core.List.{List, [], _∷_}
 use lib.ListN.{length}
 use borrow.Author.Tests.{leb-true}
-use Rattle.protocol.specs.Refusals.{refusal, first, passes}
+use Rattle.wire.specs.Refusals.{refusal, first, passes}
 use Rattle.protocol.specs.Outer.{maxPayload}
-use Rattle.protocol.specs.declared.refusal.Refusal.{Refusal}
-use Rattle.protocol.proofs.Rows.{passed, picked}
-use Rattle.record.specs.Types.{codeOf}
+use Rattle.wire.specs.declared.refusal.Refusal.{Refusal}
+use Rattle.wire.proofs.Rows.{passed, picked}
+use Rattle.types.specs.Types.{codeOf}
 use Rattle.parser.specs.Push.{Push, push, pushStage, heldIn, payloadAt}
 use Rattle.guest.specs.Receive as R
 use Rattle.guest.specs.declared.guest.GuestSession.{GuestSession}

@@ -8,8 +8,8 @@ use native.Mathlib.Omega.{arith}
 use lib.ListN.{length, length-append, length-take}
 use lib.Seq.{take-all}
 use lib.Dec.{lit<}
-use Rattle.protocol.specs.Bytes.{fromLe, Octets}
-use Rattle.protocol.specs.Header.{sequenceOf}
+use Rattle.wire.specs.Bytes.{fromLe, Octets}
+use Rattle.wire.specs.Header.{sequenceOf}
 use Rattle.protocol.specs.Outer.{maxPayload}
 use Rattle.parser.specs.Push.{heldIn, bufferedOf}
 use Rattle.parser.specs.declared.parser.RecordParser.{RecordParser}

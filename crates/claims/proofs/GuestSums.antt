@@ -7,8 +7,8 @@ use mathlib.Core.List.{List, [], _∷_}
 use native.Mathlib.Omega.{arith}
 use lib.ListN.{length}
 use borrow.Author.Tests.{leb-true}
-use Rattle.protocol.specs.Refusals.{pick, refusal, none, passes}
-use Rattle.protocol.specs.declared.refusal.Refusal.{Refusal}
+use Rattle.wire.specs.Refusals.{pick, refusal, none, passes}
+use Rattle.wire.specs.declared.refusal.Refusal.{Refusal}
 use Rattle.record.specs.Record.{recordWith}
 use Rattle.record.specs.declared.record.Record.{Record}
 use Rattle.parser.specs.Push.{Push, pushStage, payloadAt}

@@ -10,10 +10,10 @@ use lib.ListN.{length, take, length-append}
 use lib.Seq.{drop-at, take-all}
 use lib.Dec.{eqb}
 use borrow.Author.Tests.{eqb-true, ltb-true}
-use Rattle.protocol.specs.Bytes.{Octets}
-use Rattle.protocol.specs.Header.{typeOf, instanceOf, epochOf, sequenceOf, lengthOf}
-use Rattle.protocol.proofs.Rows.{Passed, and-left, and-right}
-use Rattle.record.specs.Types.{codeOf, lengthOk}
+use Rattle.wire.specs.Bytes.{Octets}
+use Rattle.wire.specs.Header.{typeOf, instanceOf, epochOf, sequenceOf, lengthOf}
+use Rattle.wire.proofs.Rows.{Passed, and-left, and-right}
+use Rattle.types.specs.Types.{codeOf, lengthOk}
 use Rattle.record.specs.Record.{recordBytes, recordWith}
 use Rattle.record.specs.declared.record.Record.{Record}
 use Rattle.parser.specs.Push.{Push, pushStage, heldIn}

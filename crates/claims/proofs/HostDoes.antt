@@ -8,13 +8,13 @@ use mathlib.Core.List.{List, _++_}
 use native.Mathlib.Omega.{arith}
 use lib.ListN.{length}
 use lib.Dec.{leb}
-use Rattle.protocol.specs.Refusals.{first, passes}
-use Rattle.protocol.specs.declared.refusal.Refusal.{Refusal}
-use Rattle.protocol.proofs.Rows.{picked, passed, and-right}
-use Rattle.record.specs.declared.types.RecordType.{RecordType}
-use Rattle.record.specs.declared.types.RecordType.the-variants as Kind
+use Rattle.wire.specs.Refusals.{first, passes}
+use Rattle.wire.specs.declared.refusal.Refusal.{Refusal}
+use Rattle.wire.proofs.Rows.{picked, passed, and-right}
+use Rattle.types.specs.declared.RecordType.{RecordType}
+use Rattle.types.specs.declared.RecordType.the-variants as Kind
 use Rattle.parser.specs.Push.{Push, push, pushStage, heldIn, headWith, payloadAt}
-use Rattle.protocol.specs.declared.Sequence.{Sequence}
+use Rattle.wire.specs.declared.Sequence.{Sequence}
 use Rattle.session.specs.declared.session.OptionalIdentity.{OptionalIdentity}
 use Rattle.host.specs.State.{code, isOpen, isBegun}
 use Rattle.host.specs.Receive.{Receive, recordRows, effect, accept, afterPush, receiveRows, receive, receiveStage}

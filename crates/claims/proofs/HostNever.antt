@@ -8,14 +8,14 @@ use native.Mathlib.Omega.{arith}
 use lib.ListN.{length, drop}
 use lib.Dec.{ltb, leb, eqb}
 use borrow.Author.Tests.{leb-true, lt-leb, eqb-true, eqb-false, ne-eqb}
-use Rattle.protocol.specs.Refusals.{refusal, first, passes}
-use Rattle.protocol.specs.Header.{typeOf, lengthOf}
-use Rattle.protocol.specs.declared.refusal.Refusal.{Refusal}
-use Rattle.protocol.proofs.Rows.{picked, and-left, and-right}
-use Rattle.record.specs.Types.{codeOf}
+use Rattle.wire.specs.Refusals.{refusal, first, passes}
+use Rattle.wire.specs.Header.{typeOf, lengthOf}
+use Rattle.wire.specs.declared.refusal.Refusal.{Refusal}
+use Rattle.wire.proofs.Rows.{picked, and-left, and-right}
+use Rattle.types.specs.Types.{codeOf}
 use Rattle.record.specs.Record.{headerChecks, payloadChecks}
-use Rattle.record.specs.declared.types.RecordType.{RecordType}
-use Rattle.record.specs.declared.types.RecordType.the-variants as Kind
+use Rattle.types.specs.declared.RecordType.{RecordType}
+use Rattle.types.specs.declared.RecordType.the-variants as Kind
 use Rattle.record.specs.declared.record.Record.{Record}
 use Rattle.parser.specs.Push.{countsOk, errorOk, soundParser, Push, finish, bodyTaken, pushBody, headTaken, headWith, pushHead, pushRows, push, heldIn, bufferedOf}
 use Rattle.parser.specs.declared.parser.RecordParser.{RecordParser}

@@ -8,9 +8,9 @@ use native.Mathlib.Omega.{arith}
 use lib.ListN.{length, take, drop}
 use lib.Dec.{eqb, leb}
 use borrow.Author.Tests.{leb-true, le-leb, eqb-true}
-use Rattle.protocol.specs.Refusals.{pick, refusal, first, passes}
-use Rattle.protocol.specs.declared.refusal.Refusal.{Refusal}
-use Rattle.protocol.proofs.Rows.{picked, passed}
+use Rattle.wire.specs.Refusals.{pick, refusal, first, passes}
+use Rattle.wire.specs.declared.refusal.Refusal.{Refusal}
+use Rattle.wire.proofs.Rows.{picked, passed}
 use Rattle.parser.specs.Push.{soundParser, countsOk, errorOk, heldIn, bufferedOf}
 use Rattle.session.specs.Checks.{nextRow}
 use Rattle.host.specs.State.{code, isDetached, isAttached, isBegun, soundHost, withState, sentHost}

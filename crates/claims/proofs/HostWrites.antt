@@ -8,12 +8,12 @@ use native.Mathlib.Nat.{le-of-eq}
 use native.Mathlib.Omega.{arith}
 use lib.ListN.{length, take, drop, replicate, length-take, length-append, drop-of-length-le}
 use lib.Seq.{take-at, drop-at}
-use Rattle.protocol.specs.Bytes.{toLe, overlay}
-use Rattle.protocol.specs.Refusals.{pick, none, passes}
-use Rattle.protocol.specs.Header.{headerBytes}
-use Rattle.protocol.specs.declared.refusal.Refusal.{Refusal}
-use Rattle.protocol.proofs.Rows.{picked}
-use Rattle.protocol.proofs.Headers.{header-length}
+use Rattle.wire.specs.Bytes.{toLe, overlay}
+use Rattle.wire.specs.Refusals.{pick, none, passes}
+use Rattle.wire.specs.Header.{headerBytes}
+use Rattle.wire.specs.declared.refusal.Refusal.{Refusal}
+use Rattle.wire.proofs.Rows.{picked}
+use Rattle.wire.proofs.Headers.{header-length}
 use Rattle.record.specs.Record.{recordBytes}
 use Rattle.host.specs.Calls.{Outcome, writes}
 use Rattle.host.specs.declared.host.HostSession.{HostSession}

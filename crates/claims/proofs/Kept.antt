@@ -4,8 +4,8 @@ use Prim.Native.Nat.{ℕ}
 use mathlib.Core.Path.{_≡_, refl, sym, subst, _∙_}
 use mathlib.Core.Bool.{true}
 use mathlib.Core.List.{List, _++_, append-assoc}
-use Rattle.protocol.specs.Bytes.{Octets}
-use Rattle.protocol.specs.Refusals.{passes}
+use Rattle.wire.specs.Bytes.{Octets}
+use Rattle.wire.specs.Refusals.{passes}
 use Rattle.record.specs.Record.{recordOf}
 use Rattle.record.specs.declared.record.Record.{Record}
 use Rattle.claims.specs.Reading.{encoded, encodings, Run, Accounts, NothingLost}

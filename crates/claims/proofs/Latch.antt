@@ -7,10 +7,10 @@ use mathlib.Core.List.{List, [], _++_}
 use native.Mathlib.Omega.{arith}
 use lib.Dec.{leb, eqb}
 use borrow.Author.Tests.{leb-true, le-leb, eqb-true, ne-eqb}
-use Rattle.protocol.specs.Refusals.{pick, refusal, none, first, passes}
-use Rattle.protocol.specs.Header.{lengthOf}
-use Rattle.protocol.specs.declared.refusal.Refusal.{Refusal}
-use Rattle.protocol.proofs.Rows.{and-left, and-right}
+use Rattle.wire.specs.Refusals.{pick, refusal, none, first, passes}
+use Rattle.wire.specs.Header.{lengthOf}
+use Rattle.wire.specs.declared.refusal.Refusal.{Refusal}
+use Rattle.wire.proofs.Rows.{and-left, and-right}
 use Rattle.parser.specs.Push.{countsOk, errorOk, soundParser, Push, stopped, headWith, pushHead, pushRows, push, neededOf}
 use Rattle.parser.specs.declared.parser.RecordParser.{RecordParser}
 use Rattle.parser.specs.declared.parser.Pushed.{Pushed}

@@ -3,7 +3,7 @@ use Prim.Native.Nat.{ℕ, zero, suc, _+_}
 use mathlib.Core.List.{List, [], _∷_, _++_}
 use native.Mathlib.Omega.{arith}
 use lib.ListN.{length, take, drop, replicate}
-use Rattle.protocol.specs.Bytes.{overlay, Octets, end, octet}
+use Rattle.wire.specs.Bytes.{overlay, Octets, end, octet}
 
 octets-take : (n : ℕ) {l : List ℕ} → Octets l → Octets (take n l)
 octets-take zero o = end

@@ -9,10 +9,10 @@ use lib.ListN.{length, take, length-append, length-take}
 use lib.Seq.{take-all}
 use lib.Dec.{ltb, eqb}
 use borrow.Author.Tests.{ltb-true, eqb-true, lt-ltb, eq-eqb, ne-eqb}
-use Rattle.protocol.specs.Refusals.{pick, none, passes}
-use Rattle.protocol.specs.Header.{typeOf, lengthOf}
-use Rattle.protocol.specs.declared.refusal.Refusal.{Refusal}
-use Rattle.protocol.proofs.Rows.{picked, and-left, and-right}
+use Rattle.wire.specs.Refusals.{pick, none, passes}
+use Rattle.wire.specs.Header.{typeOf, lengthOf}
+use Rattle.wire.specs.declared.refusal.Refusal.{Refusal}
+use Rattle.wire.proofs.Rows.{picked, and-left, and-right}
 use Rattle.record.specs.Record.{headerChecks, payloadChecks, recordOf}
 use Rattle.parser.specs.Push.{parserOf, countsOk, errorOk, soundParser, Push}
 use Rattle.parser.specs.declared.parser.RecordParser.{RecordParser}

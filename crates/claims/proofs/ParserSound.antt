@@ -8,10 +8,10 @@ use native.Mathlib.Omega.{arith}
 use lib.ListN.{drop}
 use lib.Dec.{ltb, eqb, lit≤}
 use borrow.Author.Tests.{ltb-true, le-leb, lt-ltb, ne-eqb}
-use Rattle.protocol.specs.Refusals.{none, first, passes}
-use Rattle.protocol.specs.Header.{typeOf, lengthOf}
-use Rattle.protocol.specs.declared.refusal.Refusal.{Refusal}
-use Rattle.protocol.proofs.Rows.{picked}
+use Rattle.wire.specs.Refusals.{none, first, passes}
+use Rattle.wire.specs.Header.{typeOf, lengthOf}
+use Rattle.wire.specs.declared.refusal.Refusal.{Refusal}
+use Rattle.wire.proofs.Rows.{picked}
 use Rattle.record.specs.Record.{headerChecks, headerRows, payloadChecks, payloadRows}
 use Rattle.parser.specs.Push.{parserOf, countsOk, errorOk, soundParser, Push, finish, bodyTaken, pushBody, headTaken, headWith, pushHead, pushRows, push}
 use Rattle.parser.specs.declared.parser.RecordParser.{RecordParser}

@@ -10,11 +10,11 @@ use lib.ListN.{length, take, drop, length-append, length-take, length-drop, take
 use lib.Seq.{take-all, take-add, take-append-add}
 use lib.Dec.{eqb}
 use borrow.Author.Tests.{lt-ltb, le-ltb, le-leb}
-use Rattle.protocol.specs.Bytes.{overlay}
-use Rattle.protocol.specs.Refusals.{pick, first, passes}
-use Rattle.protocol.specs.Header.{typeOf, lengthOf}
-use Rattle.protocol.proofs.Rows.{pass-all}
-use Rattle.protocol.proofs.Overlays.{length-overlay, take-overlay}
+use Rattle.wire.specs.Bytes.{overlay}
+use Rattle.wire.specs.Refusals.{pick, first, passes}
+use Rattle.wire.specs.Header.{typeOf, lengthOf}
+use Rattle.wire.proofs.Rows.{pass-all}
+use Rattle.wire.proofs.Overlays.{length-overlay, take-overlay}
 use Rattle.record.specs.Record.{headerChecks, payloadChecks}
 use Rattle.parser.specs.Push.{stopped, waiting, failed, finish, bodyTaken, pushBody, headTaken, headWith, pushHead, pushRows, push}
 use Rattle.parser.specs.declared.parser.RecordParser.{RecordParser}

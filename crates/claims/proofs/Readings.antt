@@ -7,9 +7,9 @@ use mathlib.Core.List.{List, [], _∷_, _++_, append-assoc}
 use native.Mathlib.Omega.{arith}
 use lib.ListN.{length, drop}
 use lib.Seq.{drop-at}
-use Rattle.protocol.specs.Refusals.{passes}
-use Rattle.protocol.specs.Header.{lengthOf}
-use Rattle.protocol.specs.declared.refusal.Refusal.{Refusal}
+use Rattle.wire.specs.Refusals.{passes}
+use Rattle.wire.specs.Header.{lengthOf}
+use Rattle.wire.specs.declared.refusal.Refusal.{Refusal}
 use Rattle.record.specs.Record.{headerChecks, recordOf}
 use Rattle.record.specs.declared.record.Record.{Record}
 use Rattle.claims.proofs.Scans.{Scan, unfinished, whole, refused, scan, scan-append}

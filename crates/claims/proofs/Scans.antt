@@ -10,9 +10,9 @@ use lib.ListN.{length, take, drop, length-append, take-append-drop, length-take}
 use lib.Seq.{take-at, drop-at, take-append-le}
 use lib.Dec.{ltb}
 use borrow.Author.Tests.{lt-ltb, le-ltb}
-use Rattle.protocol.specs.Refusals.{pick, passes}
-use Rattle.protocol.specs.Header.{typeOf, lengthOf}
-use Rattle.protocol.specs.declared.refusal.Refusal.{Refusal}
+use Rattle.wire.specs.Refusals.{pick, passes}
+use Rattle.wire.specs.Header.{typeOf, lengthOf}
+use Rattle.wire.specs.declared.refusal.Refusal.{Refusal}
 use Rattle.record.specs.Record.{headerChecks, payloadChecks}
 
 -- what the first bytes of a string are: part of a record, a header and its payload, or no record

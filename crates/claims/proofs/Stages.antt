@@ -9,11 +9,11 @@ use native.Mathlib.Decide.{decLt, ℕ-discrete}
 use lib.ListN.{length, take, drop, length-take}
 use lib.Dec.{ltb}
 use borrow.Author.Tests.{lt-ltb, le-ltb, le-leb, lt-leb, eq-eqb, ne-eqb}
-use Rattle.protocol.specs.Bytes.{overlay}
-use Rattle.protocol.specs.Refusals.{pick, first, passes}
-use Rattle.protocol.specs.Header.{typeOf, lengthOf}
-use Rattle.protocol.proofs.Rows.{picked}
-use Rattle.protocol.proofs.Overlays.{length-overlay, take-overlay}
+use Rattle.wire.specs.Bytes.{overlay}
+use Rattle.wire.specs.Refusals.{pick, first, passes}
+use Rattle.wire.specs.Header.{typeOf, lengthOf}
+use Rattle.wire.proofs.Rows.{picked}
+use Rattle.wire.proofs.Overlays.{length-overlay, take-overlay}
 use Rattle.record.specs.Record.{headerChecks, payloadChecks, recordWith}
 use Rattle.parser.specs.Push.{Push, stopped, finish, bodyTaken, pushBody, headTaken, headWith, pushHead, pushRows, push, bodyStage, headStage, pushStage, heldIn, payloadAt}
 use Rattle.parser.specs.declared.parser.RecordParser.{RecordParser}

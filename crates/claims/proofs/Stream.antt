@@ -8,13 +8,13 @@ use native.Mathlib.Omega.{arith}
 use lib.ListN.{length, take, length-append}
 use lib.Seq.{take-all}
 use borrow.Author.Tests.{le-leb}
-use Rattle.protocol.specs.Bytes.{overlay, Octets}
-use Rattle.protocol.specs.Refusals.{pick, refusal, none, first, passes}
-use Rattle.protocol.specs.Header.{typeOf, lengthOf}
+use Rattle.wire.specs.Bytes.{overlay, Octets}
+use Rattle.wire.specs.Refusals.{pick, refusal, none, first, passes}
+use Rattle.wire.specs.Header.{typeOf, lengthOf}
 use Rattle.protocol.specs.Outer.{outcome, write}
-use Rattle.protocol.specs.declared.refusal.Refusal.{Refusal}
-use Rattle.protocol.proofs.Rows.{passed, pass-all}
-use Rattle.record.specs.Types.{codeOf}
+use Rattle.wire.specs.declared.refusal.Refusal.{Refusal}
+use Rattle.wire.proofs.Rows.{passed, pass-all}
+use Rattle.types.specs.Types.{codeOf}
 use Rattle.record.specs.Record.{headerChecks, payloadChecks, recordOf, recordWith, recordRows, encodeRows, encodeRecord}
 use Rattle.record.specs.declared.record.Record.{Record}
 use Rattle.parser.specs.Push.{parserOf, countsOk, errorOk, soundParser, Push, headTaken, headWith, push}

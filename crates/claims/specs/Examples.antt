@@ -5,11 +5,11 @@ use mathlib.Core.Path.{_≡_}
 use mathlib.Core.Bool.{true}
 use mathlib.Core.List.{List, [], _∷_, _++_}
 use lib.ListN.{length, replicate}
-use Rattle.protocol.specs.Bytes.{toLe}
-use Rattle.protocol.specs.Refusals.{refusal, none, passes}
-use Rattle.protocol.specs.Header.{headerBytes}
+use Rattle.wire.specs.Bytes.{toLe}
+use Rattle.wire.specs.Refusals.{refusal, none, passes}
+use Rattle.wire.specs.Header.{headerBytes}
 use Rattle.protocol.specs.Outer as Outer
-use Rattle.protocol.specs.declared.refusal.Refusal.{Refusal}
+use Rattle.wire.specs.declared.refusal.Refusal.{Refusal}
 use Rattle.record.specs.Record.{recordBytes, encodeRecord}
 use Rattle.parser.specs.Push.{Push, push, fresh, neededOf, counted}
 use Rattle.parser.specs.declared.parser.RecordParser.{RecordParser}

@@ -5,9 +5,9 @@ use mathlib.Core.Path.{_≡_}
 use mathlib.Core.Bool.{true, false}
 use mathlib.Core.List.{List, [], _∷_, _++_, map}
 use lib.ListN.{length}
-use Rattle.protocol.specs.Bytes.{Octets}
-use Rattle.protocol.specs.Refusals.{refusal, none, passes}
-use Rattle.protocol.specs.Header.{typeOf, sequenceOf, lengthOf}
+use Rattle.wire.specs.Bytes.{Octets}
+use Rattle.wire.specs.Refusals.{refusal, none, passes}
+use Rattle.wire.specs.Header.{typeOf, sequenceOf, lengthOf}
 use Rattle.protocol.specs.Outer.{maxPayload}
 use Rattle.record.specs.Record.{headerChecks}
 use Rattle.parser.specs.Push.{bufferedOf}

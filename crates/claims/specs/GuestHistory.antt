@@ -3,8 +3,8 @@
 use Prim.Native.Nat.{ℕ, _+_, _-_, _<_}
 use mathlib.Core.List.{List, [], _∷_, _++_}
 use lib.ListN.{length, take, drop}
-use Rattle.protocol.specs.Refusals.{pick, passes}
-use Rattle.protocol.specs.Header.{instanceOf, epochOf, sequenceOf}
+use Rattle.wire.specs.Refusals.{pick, passes}
+use Rattle.wire.specs.Header.{instanceOf, epochOf, sequenceOf}
 use Rattle.protocol.specs.Outer.{maxPayload}
 use Rattle.record.specs.Record.{recordBytes}
 use Rattle.guest.specs.declared.guest.GuestEvent.{GuestEvent}

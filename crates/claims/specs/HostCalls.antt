@@ -5,8 +5,8 @@ use mathlib.Core.Path.{_≡_}
 use mathlib.Core.Bool.{true}
 use mathlib.Core.List.{List, [], _∷_, _++_}
 use lib.ListN.{length, take, drop}
-use Rattle.protocol.specs.Refusals.{refusal}
-use Rattle.protocol.specs.declared.refusal.Refusal.{Refusal}
+use Rattle.wire.specs.Refusals.{refusal}
+use Rattle.wire.specs.declared.refusal.Refusal.{Refusal}
 use Rattle.parser.specs.Push.{payloadAt}
 use Rattle.parser.specs.declared.parser.Place.{Place}
 use Rattle.parser.specs.declared.parser.Count.{Count}

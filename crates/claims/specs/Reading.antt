@@ -6,14 +6,14 @@ use mathlib.Core.Bool.{true, false}
 use mathlib.Core.List.{List, [], _∷_, _++_}
 use lib.ListN.{length, take, drop}
 use lib.Dec.{eqb}
-use Rattle.protocol.specs.Bytes.{overlay, Octets}
-use Rattle.protocol.specs.Refusals.{pick, none, first, passes}
+use Rattle.wire.specs.Bytes.{overlay, Octets}
+use Rattle.wire.specs.Refusals.{pick, none, first, passes}
 use Rattle.protocol.specs.Outer as Outer
 use Rattle.protocol.specs.Outer.{maxPayload}
-use Rattle.protocol.specs.declared.refusal.Refusal.{Refusal}
-use Rattle.record.specs.Types.{codeOf}
+use Rattle.wire.specs.declared.refusal.Refusal.{Refusal}
+use Rattle.types.specs.Types.{codeOf}
 use Rattle.record.specs.Record.{recordRows, recordBytes, encodeRecord}
-use Rattle.record.specs.declared.types.RecordType.{RecordType}
+use Rattle.types.specs.declared.RecordType.{RecordType}
 use Rattle.record.specs.declared.record.Record.{Record}
 use Rattle.parser.specs.Push.{soundParser, Push, stopped, push, pushStage, Outcome, pushOf, fresh, heldIn, payloadAt, neededOf, bufferedOf}
 use Rattle.parser.specs.declared.parser.RecordParser.{RecordParser}

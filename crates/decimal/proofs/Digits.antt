@@ -11,7 +11,7 @@ use lib.ListN.{length, length-append}
 use lib.Dec.{ltb}
 use borrow.Author.Tests.{lt-ltb, le-ltb}
 use Rattle.io.specs.Digits.{digits, Fewest, glyph}
-use Rattle.protocol.specs.Refusals.{pick}
+use Rattle.wire.specs.Refusals.{pick}
 use Rattle.decimal.specs.Decimal.{decimalIn, decimal, number}
 
 digits-decimal : (f k n : ℕ) → Fewest 10 1 n k → k ≤ f → digits 10 k n ≡ decimalIn f n

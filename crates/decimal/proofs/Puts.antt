@@ -9,9 +9,9 @@ use lib.ListN.{length, take, drop, set, length-append}
 use lib.Seq.{set-split, take-at}
 use borrow.Author.Tests.{le-leb, lt-leb}
 use Rattle.io.specs.Digits.{digits, Fewest}
-use Rattle.protocol.specs.Refusals.{pick}
-use Rattle.protocol.specs.Bytes.{overlay, copied}
-use Rattle.protocol.proofs.Overlays.{length-overlay, overlay-next, copied-fits}
+use Rattle.wire.specs.Refusals.{pick}
+use Rattle.wire.specs.Bytes.{overlay, copied}
+use Rattle.wire.proofs.Overlays.{length-overlay, overlay-next, copied-fits}
 use Rattle.decimal.specs.Decimal.{number, Puts, Placed, placed, putNumber}
 use Rattle.decimal.proofs.Digits.{digits-few, number-put, number-length}
 

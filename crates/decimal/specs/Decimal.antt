@@ -4,8 +4,8 @@ use mathlib.Core.Path.{_≡_}
 use mathlib.Core.List.{List, [], _∷_, _++_}
 use lib.ListN.{length}
 use lib.Dec.{leb, ltb}
-use Rattle.protocol.specs.Refusals.{pick}
-use Rattle.protocol.specs.Bytes.{overlay}
+use Rattle.wire.specs.Refusals.{pick}
+use Rattle.wire.specs.Bytes.{overlay}
 
 -- the decimal digits of n, with no leading zero, if there are at most as many as the first argument says
 unfoldable pub decimalIn : ℕ → ℕ → List ℕ

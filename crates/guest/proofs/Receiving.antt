@@ -7,11 +7,11 @@ use native.Mathlib.Omega.{arith}
 use lib.ListN.{length}
 use lib.Dec.{eqb, leb, ltb}
 use borrow.Author.Tests.{le-leb, lt-leb, eq-eqb, ne-eqb, ltb-true, leb-true, not-true, not-false}
-use Rattle.protocol.specs.Refusals.{pick, refusal, none, first, passes}
+use Rattle.wire.specs.Refusals.{pick, refusal, none, first, passes}
 use Rattle.protocol.specs.Outer.{maxPayload}
-use Rattle.protocol.specs.declared.refusal.Refusal.{Refusal}
-use Rattle.protocol.proofs.Rows.{picked, passed, pass-all, row-stops, row-passes, no-rows, rows-stop, rows-pass}
-use Rattle.record.specs.Types.{codeOf}
+use Rattle.wire.specs.declared.refusal.Refusal.{Refusal}
+use Rattle.wire.proofs.Rows.{picked, passed, pass-all, row-stops, row-passes, no-rows, rows-stop, rows-pass}
+use Rattle.types.specs.Types.{codeOf}
 use Rattle.record.specs.declared.record.Record.{Record}
 use Rattle.parser.specs.Push.{Push, push, pushStage, heldIn, pushOf}
 use Rattle.parser.specs.Push as pushing

@@ -4,10 +4,10 @@ use mathlib.Core.Bool.{Bool, true, false, not, _&&_}
 use mathlib.Core.List.{List, [], _∷_, _++_}
 use lib.ListN.{length, take, replicate}
 use lib.Dec.{eqb, leb}
-use Rattle.protocol.specs.Bytes.{toLe, overlay}
-use Rattle.protocol.specs.Refusals.{pick, refusal, none, first, passes}
+use Rattle.wire.specs.Bytes.{toLe, overlay}
+use Rattle.wire.specs.Refusals.{pick, refusal, none, first, passes}
 use Rattle.protocol.specs.Outer.{maxPayload, windowOk, roomRow}
-use Rattle.protocol.specs.declared.refusal.Refusal.{Refusal}
+use Rattle.wire.specs.declared.refusal.Refusal.{Refusal}
 use Rattle.record.specs.Record.{recordBytes}
 use Rattle.parser.specs.Push.{neededOf, bufferedOf}
 use Rattle.parser.specs.declared.parser.Count.{Count}

@@ -3,32 +3,33 @@ use parser::parser::Count;
 use parser::parser::Place;
 use parser::parser::Pushed;
 use parser::parser::RecordParser;
-use protocol::Epoch;
-use protocol::Sequence;
-use protocol::bytes::u32_to_le_bytes;
 use protocol::outer::OUTER_MAX_PAYLOAD;
 use protocol::outer::OUTER_MAX_RECEIVE_WINDOW;
 use protocol::outer::Written;
-use protocol::refusal::Refusal;
 use record::record::Record;
 use record::record::encode_record;
-use record::types::RecordType;
 use session::session::Identity;
 use session::session::OptionalIdentity;
 use session::session::check_identity;
 use session::session::check_sequence;
 use session::session::encode_data;
 use session::session::encode_next;
+use session::session::identity_in;
 use session::session::next_sequence;
 use session::session::no_identity;
 use session::session::record_identity;
 use session::session::same_instance;
+use types::RecordType;
+use wire::Epoch;
+use wire::Sequence;
+use wire::bytes::u32_to_le_bytes;
+use wire::refusal::Refusal;
 ghost use mathlib.Core.Path.{_≡_};
 ghost use mathlib.Core.Bool.{not, _&&_, _||_};
 ghost use mathlib.Core.List.{[], _∷_};
 ghost use Prim.Native.Nat.{_+_, _-_, _≤_, _<_};
 ghost use lib.Dec.{leb};
-ghost use Rattle.protocol.specs.Refusals.{first};
+ghost use Rattle.wire.specs.Refusals.{first};
 ghost use Rattle.session.specs.Checks.{holds, lastSequence, nextRow};
 ghost use Rattle.session.specs.Checks as checks;
 ghost use Rattle.guest.specs.State.{code, freshGuest, soundGuest, figuresOk, withState, resetSession, dataGuest, ackGuest, withSent, sentGuest};
@@ -38,7 +39,7 @@ ghost use Rattle.guest.specs.declared.guest.GuestState.the-variants as S
 ghost use Rattle.guest.specs.Calls.{outcome, notSent, sentRecord, writes, writeRows, attach, acknowledge, send, credit, disconnect, stateOf, identityOf, windowOf, noWindow, outstandingOf, neededBy};
 ghost use lib.ListN.{replicate};
 ghost use mathlib.Core.Bool.{true};
-ghost use Rattle.protocol.specs.Bytes.{toLe};
+ghost use Rattle.wire.specs.Bytes.{toLe};
 ghost use Rattle.protocol.specs.Outer as outer;
 ghost use Rattle.protocol.specs.Outer.{creditOk};
 ghost use Rattle.record.specs.Record.{encodeRecord};
@@ -239,15 +240,6 @@ fn is_stale(current: OptionalIdentity, actual: Identity) -> bool
     let current_epoch = identity.epoch;
     let actual_epoch = actual.epoch;
     actual_epoch.0 <= current_epoch.0
-}
-
-// The identity that a record's fields make.
-fn identity_in(record: Record) -> Identity
-    ensures { λ r. ⌜ r ≡ checks.identityOf «record» ⌝ }
-{
-    let instance_id = record.instance_id;
-    let epoch = record.epoch;
-    Identity { instance_id, epoch }
 }
 
 // What stops a RESET: 11, 14, 16.

@@ -7,15 +7,15 @@ use native.Mathlib.Omega.{arith}
 use lib.ListN.{length, take, replicate, length-take}
 use lib.Dec.{eqb, leb, ltb}
 use borrow.Author.Tests.{le-leb, lt-leb, eq-eqb, ne-eqb, leb-true, leb-false, not-true, not-false}
-use Rattle.protocol.specs.Bytes.{overlay}
-use Rattle.protocol.specs.Refusals.{pick, refusal, none, first, passes}
+use Rattle.wire.specs.Bytes.{overlay}
+use Rattle.wire.specs.Refusals.{pick, refusal, none, first, passes}
 use Rattle.protocol.specs.Outer.{write, roomRow}
 use Rattle.protocol.specs.Outer as outer
-use Rattle.protocol.specs.declared.refusal.Refusal.{Refusal}
+use Rattle.wire.specs.declared.refusal.Refusal.{Refusal}
 use Rattle.protocol.specs.declared.outer.Written.{Written}
-use Rattle.protocol.proofs.Rows.{row-stops, row-passes}
+use Rattle.wire.proofs.Rows.{row-stops, row-passes}
 use Rattle.protocol.proofs.Writes.{write-stops, write-done}
-use Rattle.record.specs.Types.{lengthOk}
+use Rattle.types.specs.Types.{lengthOk}
 use Rattle.record.specs.Record.{allZero, encodeRows, recordBytes, encodeRecord}
 use Rattle.parser.specs.Push.{neededOf, bufferedOf, counted}
 use Rattle.parser.specs.declared.parser.Count.{Count}

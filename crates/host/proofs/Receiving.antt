@@ -6,12 +6,12 @@ use mathlib.Core.List.{List, [], _∷_, _++_}
 use lib.ListN.{length}
 use lib.Dec.{eqb, leb}
 use borrow.Author.Tests.{le-leb, lt-leb, eq-eqb, ne-eqb, ltb-true, not-true, not-false}
-use Rattle.protocol.specs.Refusals.{pick, refusal, none, first, passes}
-use Rattle.protocol.specs.declared.refusal.Refusal.{Refusal}
-use Rattle.protocol.proofs.Rows.{Numbered, passed, pass-all, row-stops, row-passes, no-rows, rows-stop, rows-pass}
-use Rattle.record.specs.Types.{codeOf}
-use Rattle.record.specs.declared.types.RecordType.{RecordType}
-use Rattle.record.specs.declared.types.RecordType.the-variants as Kind
+use Rattle.wire.specs.Refusals.{pick, refusal, none, first, passes}
+use Rattle.wire.specs.declared.refusal.Refusal.{Refusal}
+use Rattle.wire.proofs.Rows.{Numbered, passed, pass-all, row-stops, row-passes, no-rows, rows-stop, rows-pass}
+use Rattle.types.specs.Types.{codeOf}
+use Rattle.types.specs.declared.RecordType.{RecordType}
+use Rattle.types.specs.declared.RecordType.the-variants as Kind
 use Rattle.record.specs.declared.record.Record.{Record}
 use Rattle.parser.specs.Push.{Push, push, pushStage, heldIn, pushOf}
 use Rattle.parser.specs.Push as pushing

@@ -3,34 +3,35 @@ use parser::parser::Count;
 use parser::parser::Place;
 use parser::parser::Pushed;
 use parser::parser::RecordParser;
-use protocol::Epoch;
-use protocol::Sequence;
 use protocol::outer::OUTER_MAX_PAYLOAD;
 use protocol::outer::Written;
-use protocol::refusal::Refusal;
 use record::record::Record;
 use record::record::encode_record;
-use record::types::RecordType;
 use session::session::Identity;
 use session::session::OptionalIdentity;
 use session::session::check_identity;
 use session::session::check_instance;
 use session::session::check_sequence;
 use session::session::encode_data;
+use session::session::identity_in;
 use session::session::is_identity;
 use session::session::next_sequence;
 use session::session::no_identity;
+use types::RecordType;
+use wire::Epoch;
+use wire::Sequence;
+use wire::refusal::Refusal;
 ghost use mathlib.Core.Path.{_≡_};
 ghost use mathlib.Core.Bool.{not, _&&_, _||_};
 ghost use mathlib.Core.List.{[], _∷_};
 ghost use Prim.Native.Nat.{_<_};
 ghost use lib.Dec.{eqb, leb};
 ghost use lib.ListN.{replicate};
-ghost use Rattle.protocol.specs.Refusals.{first};
+ghost use Rattle.wire.specs.Refusals.{first};
 ghost use Rattle.protocol.specs.Outer as outer;
-ghost use Rattle.record.specs.Types.{codeOf};
+ghost use Rattle.types.specs.Types.{codeOf};
 ghost use Rattle.record.specs.Record.{encodeRecord};
-ghost use Rattle.record.specs.declared.types.RecordType.the-variants as Kind;
+ghost use Rattle.types.specs.declared.RecordType.the-variants as Kind;
 ghost use Rattle.parser.specs.Push.{payloadAt};
 ghost use Rattle.session.specs.Checks.{holds, lastSequence, identityRow, instanceRow};
 ghost use Rattle.session.specs.Checks as checks;
@@ -240,15 +241,6 @@ fn fail(session: HostSession, parser: RecordParser, refusal: Refusal) -> Receive
     ensures { λ r. ⌜ r ≡ refused refusal (withState session State.Failed parser) ⌝ }
 {
     refuse(with_state(session, HostState::Failed, parser), refusal)
-}
-
-// The identity that a record's fields make.
-fn identity_in(record: Record) -> Identity
-    ensures { λ r. ⌜ r ≡ checks.identityOf «record» ⌝ }
-{
-    let instance_id = record.instance_id;
-    let epoch = record.epoch;
-    Identity { instance_id, epoch }
 }
 
 // What stops a record by its type and sequence: 10, 15, 16.

@@ -6,9 +6,9 @@ use mathlib.Core.List.{List, _∷_}
 use native.Mathlib.Omega.{arith}
 use lib.ListN.{length, drop, length-drop, length-take}
 use lib.Dec.{leb, ltb}
-use Rattle.protocol.specs.Refusals.{refusal, first, passes}
-use Rattle.protocol.specs.declared.refusal.Refusal.{Refusal}
-use Rattle.protocol.proofs.Rows.{picked}
+use Rattle.wire.specs.Refusals.{refusal, first, passes}
+use Rattle.wire.specs.declared.refusal.Refusal.{Refusal}
+use Rattle.wire.proofs.Rows.{picked}
 use Rattle.listing.specs.Listing.{limit}
 use Rattle.listing.specs.Steps.{readOf, soundListing, Outcome, stepOf, lines, listRows, readable, listOf}
 use Rattle.listing.specs.declared.listing.Listing.{Listing}

@@ -8,14 +8,14 @@ use native.Mathlib.Decide.{decLe}
 use lib.ListN.{length, take, drop}
 use lib.Dec.{eqb, leb, ltb}
 use borrow.Author.Tests.{le-leb, lt-leb, leb-true, eq-eqb, ne-eqb, not-true, not-false}
-use Rattle.protocol.specs.Bytes.{overlay}
-use Rattle.protocol.specs.Refusals.{pick, refusal, none, first, passes}
+use Rattle.wire.specs.Bytes.{overlay}
+use Rattle.wire.specs.Refusals.{pick, refusal, none, first, passes}
 use Rattle.protocol.specs.Outer.{valueOf, write}
 use Rattle.protocol.specs.Outer as outer
-use Rattle.protocol.specs.declared.refusal.Refusal.{Refusal}
+use Rattle.wire.specs.declared.refusal.Refusal.{Refusal}
 use Rattle.protocol.specs.declared.outer.Written.{Written}
-use Rattle.protocol.proofs.Rows.{picked, and-left, and-right, pass-all, row-stops, row-passes}
-use Rattle.record.specs.Types.{codeOf}
+use Rattle.wire.proofs.Rows.{picked, and-left, and-right, pass-all, row-stops, row-passes}
+use Rattle.types.specs.Types.{codeOf}
 use Rattle.record.specs.declared.record.Record.{Record}
 use Rattle.parser.specs.Push as parser
 use Rattle.parser.specs.Push.{soundParser, pushOf, push, heldIn, bufferedOf, counted, payloadAt}

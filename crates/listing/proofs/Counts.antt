@@ -9,11 +9,11 @@ use native.Mathlib.Decide.{decLt}
 use lib.ListN.{length, take, drop, length-drop}
 use lib.Dec.{eqb, leb, ltb, lit≤}
 use borrow.Author.Tests.{ltb-true, ltb-false, eqb-true, eqb-false, lt-ltb, le-leb, eq-eqb, ne-eqb}
-use Rattle.protocol.specs.Bytes.{overlay}
-use Rattle.protocol.specs.Refusals.{pick, none, first, passes}
-use Rattle.protocol.specs.Header.{typeOf, lengthOf}
-use Rattle.protocol.specs.declared.refusal.Refusal.{Refusal}
-use Rattle.protocol.proofs.Rows.{picked, and-left, and-right}
+use Rattle.wire.specs.Bytes.{overlay}
+use Rattle.wire.specs.Refusals.{pick, none, first, passes}
+use Rattle.wire.specs.Header.{typeOf, lengthOf}
+use Rattle.wire.specs.declared.refusal.Refusal.{Refusal}
+use Rattle.wire.proofs.Rows.{picked, and-left, and-right}
 use Rattle.record.specs.Record.{headerRows, headerChecks, payloadRows, payloadChecks, recordWith}
 use Rattle.parser.specs.Push.{parserOf, countsOk, errorOk, soundParser, Push, stopped, waiting, failed, completed, finish, bodyTaken, pushBody, headTaken, headWith, pushHead, pushRows, push, bufferedOf}
 use Rattle.parser.specs.declared.parser.RecordParser.{RecordParser}

@@ -8,13 +8,13 @@ use native.Mathlib.Omega.{arith}
 use lib.ListN.{length, take, drop, length-take, length-drop}
 use lib.Dec.{eqb, leb, ltb}
 use borrow.Author.Tests.{le-leb, lt-leb, lt-ltb, le-ltb, eq-eqb, ne-eqb, not-true, not-false}
-use Rattle.protocol.specs.Bytes.{overlay}
-use Rattle.protocol.specs.Refusals.{pick, refusal, none, first, passes}
+use Rattle.wire.specs.Bytes.{overlay}
+use Rattle.wire.specs.Refusals.{pick, refusal, none, first, passes}
 use Rattle.protocol.specs.Outer.{write}
 use Rattle.protocol.specs.Outer as outer
-use Rattle.protocol.specs.declared.refusal.Refusal.{Refusal}
+use Rattle.wire.specs.declared.refusal.Refusal.{Refusal}
 use Rattle.protocol.specs.declared.outer.Written.{Written}
-use Rattle.protocol.proofs.Rows.{pass-all, row-stops, row-passes}
+use Rattle.wire.proofs.Rows.{pass-all, row-stops, row-passes}
 use Rattle.parser.specs.Push.{bufferedOf}
 use Rattle.parser.proofs.Parts.{part-end, take-min}
 use Rattle.decimal.specs.Decimal.{Puts}

@@ -4,8 +4,8 @@ use mathlib.Core.List.{List, [], _∷_, _++_}
 use Prim.Native.Nat.{ℕ, _+_, _≤_}
 use native.Mathlib.Omega.{arith}
 use lib.ListN.{length}
-use Rattle.protocol.specs.Bytes.{overlay, copied}
-use Rattle.protocol.proofs.Overlays.{copied-fits}
+use Rattle.wire.specs.Bytes.{overlay, copied}
+use Rattle.wire.proofs.Overlays.{copied-fits}
 use Rattle.decimal.specs.Decimal.{number, Puts, placed, putNumber}
 use Rattle.decimal.proofs.Puts.{puts-length, puts-then, number-puts, number-room}
 use Rattle.listing.specs.Listing.{names, line, ending}

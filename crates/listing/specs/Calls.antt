@@ -4,7 +4,7 @@ use mathlib.Core.Path.{_≡_}
 use mathlib.Core.Bool.{false}
 use mathlib.Core.List.{List, [], _∷_, _++_}
 use lib.ListN.{length, take, drop}
-use Rattle.protocol.specs.Refusals.{passes}
+use Rattle.wire.specs.Refusals.{passes}
 use Rattle.listing.specs.Listing.{limit}
 use Rattle.listing.specs.Steps.{Outcome, readOf, lineRoom, listOf}
 use Rattle.listing.specs.declared.listing.Listing.{Listing}

@@ -3,8 +3,8 @@ use Prim.Native.Nat.{ℕ, zero, suc, _+_, _-_}
 use mathlib.Core.List.{List, [], _∷_, _++_}
 use lib.ListN.{length, take, drop}
 use lib.Dec.{eqb, ltb}
-use Rattle.protocol.specs.Refusals.{pick, passes}
-use Rattle.protocol.specs.Header.{typeOf, epochOf, sequenceOf, lengthOf}
+use Rattle.wire.specs.Refusals.{pick, passes}
+use Rattle.wire.specs.Header.{typeOf, epochOf, sequenceOf, lengthOf}
 use Rattle.protocol.specs.Outer.{valueOf}
 use Rattle.record.specs.Record.{headerChecks, payloadChecks}
 use Rattle.decimal.specs.Decimal.{number}

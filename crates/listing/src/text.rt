@@ -1,6 +1,6 @@
 // The listing's lines, put into a lent buffer.
 use decimal::put_number;
-use protocol::bytes::copy_at;
+use wire::bytes::copy_at;
 ghost use mathlib.Core.Path.{_≡_};
 ghost use Prim.Native.Nat.{_+_, _≤_};
 ghost use lib.ListN.{length};

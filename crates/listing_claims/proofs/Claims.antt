@@ -9,16 +9,16 @@ use lib.ListN.{length, take, drop, length-take, length-append}
 use lib.Seq.{take-at, take-all, take-append-add}
 use lib.Dec.{leb, ltb}
 use borrow.Author.Tests.{le-leb, leb-true, eqb-true, lt-ltb}
-use Rattle.protocol.specs.Bytes.{overlay, fromLe, toLe}
-use Rattle.protocol.specs.Header.{magicOf, versionOf, typeOf, flagsOf, instanceOf, epochOf, sequenceOf, lengthOf, headerBytes}
-use Rattle.protocol.specs.Refusals.{pick, refusal, none, first, passes}
+use Rattle.wire.specs.Bytes.{overlay, fromLe, toLe}
+use Rattle.wire.specs.Header.{magicOf, versionOf, typeOf, flagsOf, instanceOf, epochOf, sequenceOf, lengthOf, headerBytes}
+use Rattle.wire.specs.Refusals.{pick, refusal, none, first, passes}
 use Rattle.protocol.specs.Outer.{maxPayload, write, valueOf, windowOk, creditOk}
-use Rattle.record.specs.Types.{lengthOk}
+use Rattle.types.specs.Types.{lengthOk}
 use Rattle.record.specs.Record.{allZero, headerChecks, payloadChecks}
 use Rattle.decimal.specs.Decimal.{number, decimal, decimalIn}
 use Rattle.protocol.specs.Outer as outer
-use Rattle.protocol.specs.declared.refusal.Refusal.{Refusal}
-use Rattle.protocol.proofs.Rows.{picked, pass-all}
+use Rattle.wire.specs.declared.refusal.Refusal.{Refusal}
+use Rattle.wire.proofs.Rows.{picked, pass-all}
 use Rattle.parser.specs.Push.{soundParser, countsOk, errorOk, bufferedOf, heldIn}
 use Rattle.claims.proofs.Outcomes.{true-not-false, ready-scan}
 use Rattle.claims.proofs.Feeds.{bytesIn, fresh-ready}

@@ -8,11 +8,11 @@ use mathlib.Core.List.{List, [], _∷_, _++_, append-assoc}
 use native.Mathlib.Omega.{arith}
 use lib.ListN.{length, take, drop, length-append, length-take, take-append-drop}
 use lib.Seq.{take-append-add, drop-length}
-use Rattle.protocol.specs.Bytes.{overlay}
-use Rattle.protocol.specs.Refusals.{pick, none, passes}
-use Rattle.protocol.specs.Header.{typeOf, epochOf, sequenceOf, lengthOf}
-use Rattle.protocol.specs.declared.refusal.Refusal.{Refusal}
-use Rattle.record.specs.Types.{codeOf}
+use Rattle.wire.specs.Bytes.{overlay}
+use Rattle.wire.specs.Refusals.{pick, none, passes}
+use Rattle.wire.specs.Header.{typeOf, epochOf, sequenceOf, lengthOf}
+use Rattle.wire.specs.declared.refusal.Refusal.{Refusal}
+use Rattle.types.specs.Types.{codeOf}
 use Rattle.record.specs.Record.{headerChecks, recordOf, recordWith}
 use Rattle.record.specs.declared.record.Record.{Record}
 use Rattle.parser.specs.Push.{parserOf, Push, push, headWith, pushStage, pushOf, heldIn, bufferedOf, payloadAt}

@@ -9,10 +9,10 @@ use lib.ListN.{length, take, drop, length-drop, length-take, take-append-drop}
 use lib.Seq.{drop-drop, drop-append-le}
 use lib.Dec.{leb, ltb}
 use borrow.Author.Tests.{leb-true, ltb-true}
-use Rattle.protocol.specs.Refusals.{pick, refusal, none, first, passes}
+use Rattle.wire.specs.Refusals.{pick, refusal, none, first, passes}
 use Rattle.protocol.specs.Outer.{maxPayload}
-use Rattle.protocol.specs.declared.refusal.Refusal.{Refusal}
-use Rattle.protocol.proofs.Rows.{picked, and-left, and-right}
+use Rattle.wire.specs.declared.refusal.Refusal.{Refusal}
+use Rattle.wire.proofs.Rows.{picked, and-left, and-right}
 use Rattle.claims.proofs.Outcomes.{true-not-false}
 use Rattle.decimal.specs.Decimal.{Puts}
 use Rattle.decimal.proofs.Puts.{puts-length, puts-then, put-first}

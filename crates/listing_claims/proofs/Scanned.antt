@@ -10,9 +10,9 @@ use lib.ListN.{length, take, drop, length-append, length-drop}
 use lib.Seq.{take-at, drop-at}
 use lib.Dec.{ltb}
 use borrow.Author.Tests.{le-ltb}
-use Rattle.protocol.specs.Refusals.{pick, passes}
-use Rattle.protocol.specs.Header.{typeOf, epochOf, sequenceOf, lengthOf}
-use Rattle.protocol.specs.declared.refusal.Refusal.{Refusal}
+use Rattle.wire.specs.Refusals.{pick, passes}
+use Rattle.wire.specs.Header.{typeOf, epochOf, sequenceOf, lengthOf}
+use Rattle.wire.specs.declared.refusal.Refusal.{Refusal}
 use Rattle.record.specs.Record.{headerChecks, payloadChecks}
 use Rattle.claims.proofs.Scans.{Scan, unfinished, whole, refused, scan, scanValue, scanBody, scanHeader, scan-short, scan-cut, scan-append}
 use Rattle.listing.specs.Listing.{line, ending, openAfter, listFrom, linesFrom}

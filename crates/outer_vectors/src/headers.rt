@@ -1,9 +1,9 @@
 // decode_outer_header: the fields it reads, and refusals 25 and 26.
-use protocol::Epoch;
-use protocol::Sequence;
 use protocol::outer::OuterHeader;
 use protocol::outer::decode_outer_header;
 use protocol::outer::encode_header;
+use wire::Epoch;
+use wire::Sequence;
 
 // One header's bytes, and its fields or the refusal.
 pub fn decode(header: [u8; 44]) {

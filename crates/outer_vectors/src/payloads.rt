@@ -1,11 +1,11 @@
 // The ack and credit payload pairs: the bytes and values, and refusals 27, 28 and 29.
-use protocol::bytes::u32_to_le_bytes;
 use protocol::outer::DecodedPayload;
 use protocol::outer::EncodedPayload;
 use protocol::outer::decode_ack_payload;
 use protocol::outer::decode_credit_payload;
 use protocol::outer::encode_ack_payload;
 use protocol::outer::encode_credit_payload;
+use wire::bytes::u32_to_le_bytes;
 
 // The end of a line: the four bytes, or the refusal.
 fn encoded(answer: EncodedPayload) {

@@ -1,8 +1,8 @@
 // encode_outer: the bytes it writes, and refusals 22 and 24.
 use crate::headers::decode;
-use protocol::Epoch;
-use protocol::Sequence;
 use protocol::outer::encode_outer;
+use wire::Epoch;
+use wire::Sequence;
 
 // M1: a RESET without payload, there and back.
 pub fn reset() {

@@ -8,19 +8,19 @@ use native.Mathlib.Decide.{ℕ-discrete}
 use lib.ListN.{length, take, drop, length-take, length-drop}
 use lib.Dec.{eqb, leb, ltb}
 use borrow.Author.Tests.{lt-ltb, le-ltb, le-leb, lt-leb, eq-eqb, ne-eqb, eqb-true, leb-true, ltb-true, not-true, not-false}
-use Rattle.protocol.specs.Bytes.{overlay, copied}
-use Rattle.protocol.specs.Refusals.{pick, refusal, none, first, passes}
-use Rattle.protocol.specs.Header.{typeOf, lengthOf}
-use Rattle.protocol.specs.declared.refusal.Refusal.{Refusal}
-use Rattle.protocol.proofs.Overlays.{copied-fits, take-overlay, length-overlay}
-use Rattle.protocol.proofs.Rows.{picked, and-left, and-right, passed, pass-all, row-stops, row-passes, no-rows}
-use Rattle.record.specs.Types.{codeOf, typeAt, typeOk, lengthOk}
+use Rattle.wire.specs.Bytes.{overlay, copied}
+use Rattle.wire.specs.Refusals.{pick, refusal, none, first, passes}
+use Rattle.wire.specs.Header.{typeOf, lengthOf}
+use Rattle.wire.specs.declared.refusal.Refusal.{Refusal}
+use Rattle.wire.proofs.Overlays.{copied-fits, take-overlay, length-overlay}
+use Rattle.wire.proofs.Rows.{picked, and-left, and-right, passed, pass-all, row-stops, row-passes, no-rows}
+use Rattle.types.specs.Types.{codeOf, typeAt, typeOk, lengthOk}
 use Rattle.record.specs.Record.{headerRows, headerChecks, payloadChecks, recordWith, recordOf, typeFrom, noRecord}
-use Rattle.record.specs.declared.types.RecordType.{RecordType}
-use Rattle.record.specs.declared.types.TypeLookup.{TypeLookup}
-use Rattle.record.specs.declared.types.TypeLookup.the-variants.{Known, Unknown}
+use Rattle.types.specs.declared.RecordType.{RecordType}
+use Rattle.types.specs.declared.TypeLookup.{TypeLookup}
+use Rattle.types.specs.declared.TypeLookup.the-variants.{Known, Unknown}
 use Rattle.record.specs.declared.record.Record.{Record}
-use Rattle.record.proofs.Cases.{known-code, unknown-code, length-limit}
+use Rattle.types.proofs.Cases.{known-code, unknown-code, length-limit}
 use Rattle.parser.specs.declared.parser.RecordParser.{RecordParser}
 use Rattle.parser.specs.declared.parser.Place.{Place}
 use Rattle.parser.specs.declared.parser.Place.the-variants.{Piece, Stage}

@@ -6,7 +6,7 @@ use native.Mathlib.Omega.{arith}
 use native.Mathlib.Decide.{decLe}
 use lib.ListN.{length, take, drop, length-drop, length-take, take-append-drop, drop-of-length-le}
 use lib.Seq.{take-length, drop-length, take-all}
-use Rattle.protocol.specs.Bytes.{overlay}
+use Rattle.wire.specs.Bytes.{overlay}
 
 -- a part up to the end, as the code takes it
 pub part-end : (n : ℕ) (l : List ℕ) → take (length l - n) (drop n l) ≡ drop n l

@@ -1,23 +1,24 @@
 // An incremental parser: bytes come in pieces of any size, and each record is handed over with its
 // last byte. Payload bytes that come in several pushes lie in a stage that the caller lends.
-use protocol::bytes::copy_at;
-use protocol::fields;
 use protocol::outer::OUTER_HEADER_LEN;
 use protocol::outer::OUTER_MAX_PAYLOAD;
-use protocol::refusal::Refusal;
 use record::record::Record;
 use record::record::check_header;
 use record::record::check_payload;
 use record::record::no_record;
 use record::record::record_of;
+use wire::bytes::copy_at;
+use wire::bytes::least;
+use wire::fields;
+use wire::refusal::Refusal;
 ghost use mathlib.Core.Path.{_≡_};
 ghost use mathlib.Core.Bool.{Bool, true};
 ghost use mathlib.Core.List.{[]};
-ghost use Prim.Native.Nat.{_+_, _^_, _≤_, _<_, min};
+ghost use Prim.Native.Nat.{_+_, _^_, _≤_, _<_};
 ghost use lib.ListN.{length, take, drop};
-ghost use Rattle.protocol.specs.Bytes.{overlay};
-ghost use Rattle.protocol.specs.Refusals.{passes};
-ghost use Rattle.protocol.specs.Header.{lengthOf};
+ghost use Rattle.wire.specs.Bytes.{overlay};
+ghost use Rattle.wire.specs.Refusals.{passes};
+ghost use Rattle.wire.specs.Header.{lengthOf};
 ghost use Rattle.record.specs.Record.{headerChecks, recordOf};
 ghost use Rattle.parser.specs.Push.{fresh, countsOk, errorOk, soundParser, stopped, waiting, failed, completed, finish, pushBody, bodyStage, checkedOf, pushHead, headStage, pushOf, outcome, payloadAt, neededOf, bufferedOf, counted};
 
@@ -50,12 +51,6 @@ pub struct Pushed {
 pub struct Count {
     pub refusal: Refusal,
     pub count: usize,
-}
-
-fn least(a: usize, b: usize) -> usize
-    ensures { λ r. ⌜ r ≡ min a b ⌝ }
-{
-    if a < b { a } else { b }
 }
 
 // Whether the counts fit the header bytes.

@@ -7,23 +7,23 @@ use native.Mathlib.Omega.{arith}
 use lib.ListN.{length, length-append}
 use lib.Dec.{eqb, leb}
 use borrow.Author.Tests.{le-leb, lt-leb, eq-eqb, ne-eqb, not-true, not-false}
-use Rattle.protocol.specs.Bytes.{fromLe, toLe, bytesAt, overlay, copied}
-use Rattle.protocol.specs.Refusals.{pick, refusal, none, first, passes}
-use Rattle.protocol.specs.Header.{magic, magicOf, versionOf, typeOf, flagsOf, instanceOf, epochOf, sequenceOf, lengthOf, headerBytes}
+use Rattle.wire.specs.Bytes.{fromLe, toLe, bytesAt, overlay, copied}
+use Rattle.wire.specs.Refusals.{pick, refusal, none, first, passes}
+use Rattle.wire.specs.Header.{magic, magicOf, versionOf, typeOf, flagsOf, instanceOf, epochOf, sequenceOf, lengthOf, headerBytes}
 use Rattle.protocol.specs.Outer.{maxPayload, windowOk, creditOk, outcome, notWritten, roomRow, write, putRecord, encodeOuter}
 use Rattle.protocol.specs.Outer.{noHeader, headerOf, outerOk, refusedHeader, decodeOuterHeader, valueOf}
 use Rattle.protocol.specs.Outer.{acceptedEncoding, refusedEncoding, acceptedDecoding, refusedDecoding, encodePayload, decodePayload}
-use Rattle.protocol.specs.declared.Epoch.{Epoch}
-use Rattle.protocol.specs.declared.Sequence.{Sequence}
-use Rattle.protocol.specs.declared.refusal.Refusal.{Refusal}
+use Rattle.wire.specs.declared.Epoch.{Epoch}
+use Rattle.wire.specs.declared.Sequence.{Sequence}
+use Rattle.wire.specs.declared.refusal.Refusal.{Refusal}
 use Rattle.protocol.specs.declared.outer.OuterHeader.{OuterHeader}
 use Rattle.protocol.specs.declared.outer.Written.{Written}
 use Rattle.protocol.specs.declared.outer.DecodedHeader.{DecodedHeader}
 use Rattle.protocol.specs.declared.outer.EncodedPayload.{EncodedPayload}
 use Rattle.protocol.specs.declared.outer.DecodedPayload.{DecodedPayload}
-use Rattle.protocol.proofs.Numbers.{at-whole}
-use Rattle.protocol.proofs.Headers.{header-length}
-use Rattle.protocol.proofs.Overlays.{copied-fits, overlay-next, length-overlay}
+use Rattle.wire.proofs.Numbers.{at-whole}
+use Rattle.wire.proofs.Headers.{header-length}
+use Rattle.wire.proofs.Overlays.{copied-fits, overlay-next, length-overlay}
 
 -- ---- a record written at a position
 module _ (header payload o : List ℕ) (at : ℕ) (size : length header ≡ 44) where

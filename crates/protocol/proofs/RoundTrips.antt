@@ -9,17 +9,17 @@ use lib.ListN.{length, getD, take, drop, length-append}
 use lib.Seq.{take-take, take-at}
 use lib.Dec.{eqb, leb}
 use borrow.Author.Tests.{eqb-true, leb-true, le-leb}
-use Rattle.protocol.specs.Bytes.{fromLe, toLe, bytesAt, overlay, Octets}
-use Rattle.protocol.specs.Refusals.{pick, refusal, none, first, passes}
-use Rattle.protocol.specs.Header.{magic, magicOf, versionOf, typeOf, flagsOf, instanceOf, epochOf, sequenceOf, lengthOf, headerBytes}
+use Rattle.wire.specs.Bytes.{fromLe, toLe, bytesAt, overlay, Octets}
+use Rattle.wire.specs.Refusals.{pick, refusal, none, first, passes}
+use Rattle.wire.specs.Header.{magic, magicOf, versionOf, typeOf, flagsOf, instanceOf, epochOf, sequenceOf, lengthOf, headerBytes}
 use Rattle.protocol.specs.Outer.{maxPayload, Outcome, outcome, write, encodeOuter, outerRows, headerRows, headerOf, noHeader, outerOk, decodeOuterHeader}
-use Rattle.protocol.specs.declared.refusal.Refusal.{Refusal}
+use Rattle.wire.specs.declared.refusal.Refusal.{Refusal}
 use Rattle.protocol.specs.declared.outer.OuterHeader.{OuterHeader}
 use Rattle.protocol.specs.declared.outer.DecodedHeader.{DecodedHeader}
-use Rattle.protocol.proofs.Numbers.{at-whole, from-to}
-use Rattle.protocol.proofs.Headers.{header-length, header-back}
-use Rattle.protocol.proofs.Overlays.{part-overlay}
-use Rattle.protocol.proofs.Rows.{passed, and-left, and-right, picked}
+use Rattle.wire.proofs.Numbers.{at-whole, from-to}
+use Rattle.wire.proofs.Headers.{header-length, header-back}
+use Rattle.wire.proofs.Overlays.{part-overlay}
+use Rattle.wire.proofs.Rows.{passed, and-left, and-right, picked}
 
 -- ---- decoding undoes encoding
 abbrev pub fieldsOf : ℕ → List ℕ → ℕ → ℕ → ℕ → OuterHeader

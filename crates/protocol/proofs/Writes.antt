@@ -6,12 +6,12 @@ use mathlib.Core.List.{List}
 use lib.ListN.{length}
 use lib.Dec.{eqb}
 use borrow.Author.Tests.{eq-eqb, eqb-true, eqb-false}
-use Rattle.protocol.specs.Bytes.{overlay}
-use Rattle.protocol.specs.Refusals.{pick, none, passes}
+use Rattle.wire.specs.Bytes.{overlay}
+use Rattle.wire.specs.Refusals.{pick, none, passes}
 use Rattle.protocol.specs.Outer.{Outcome, outcome, write}
-use Rattle.protocol.specs.declared.refusal.Refusal.{Refusal}
+use Rattle.wire.specs.declared.refusal.Refusal.{Refusal}
 use Rattle.protocol.specs.declared.outer.Written.{Written}
-use Rattle.protocol.proofs.Rows.{picked}
+use Rattle.wire.proofs.Rows.{picked}
 
 module _ (w : Written) (r : Refusal) (bytes o o2 : List ℕ) (at : ℕ) (e : outcome w o2 ≡ write r bytes o at) where
   pub write-stops : (w .refusal .number ≡ 0 → ⊥) → (w .refusal ≡ r) × (o2 ≡ o)

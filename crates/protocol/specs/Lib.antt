@@ -1,4 +1,1 @@
-pub mod Bytes
-pub mod Refusals
-pub mod Header
 pub mod Outer

@@ -1,12 +1,2 @@
-// The plain layer of NVXS: refusals, numbers of fixed width, a record's header, and outer.rs.
-pub mod bytes;
-pub mod fields;
+// The plain layer of NVXS: outer.rs.
 pub mod outer;
-pub mod refusal;
-
-// The epoch of a session: a RESET starts a new one. (01: epoch and sequence are counted
-// separately, and one given in the other's place does not build.)
-pub struct Epoch(pub u64);
-
-// The number of a record in its direction of a session.
-pub struct Sequence(pub u64);

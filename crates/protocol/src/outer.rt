@@ -1,17 +1,17 @@
 // Outer records (magic `NVXS`): the port of outer.rs. A record is a 44-byte header and a payload.
-use crate::Epoch;
-use crate::Sequence;
-use crate::bytes::copy_at;
-use crate::bytes::u16_to_le_bytes;
-use crate::bytes::u32_from_le_bytes;
-use crate::bytes::u32_to_le_bytes;
-use crate::bytes::u64_to_le_bytes;
-use crate::fields;
-use crate::refusal::Refusal;
+use wire::Epoch;
+use wire::Sequence;
+use wire::bytes::copy_at;
+use wire::bytes::u16_to_le_bytes;
+use wire::bytes::u32_from_le_bytes;
+use wire::bytes::u32_to_le_bytes;
+use wire::bytes::u64_to_le_bytes;
+use wire::fields;
+use wire::refusal::Refusal;
 ghost use mathlib.Core.Path.{_≡_};
 ghost use Prim.Native.Nat.{_+_, _≤_};
 ghost use lib.ListN.{length};
-ghost use Rattle.protocol.specs.Header.{headerBytes};
+ghost use Rattle.wire.specs.Header.{headerBytes};
 ghost use Rattle.protocol.specs.Outer.{outcome, notWritten, putRecord, encodeOuter, outerOk, headerOf, refusedHeader, decodeOuterHeader, windowOk, creditOk, valueOf, acceptedEncoding, refusedEncoding, acceptedDecoding, refusedDecoding, encodeAckPayload, decodeAckPayload, encodeCreditPayload, decodeCreditPayload};
 
 // Magic of every outer record.
@@ -72,58 +72,21 @@ pub fn encode_header(
 ) -> [u8; 44]
     ensures { λ r. ⌜ r ≡ headerBytes «record_type» «instance_id» (epoch .0) (sequence .0) length ⌝ }
 {
-    let m = OUTER_MAGIC;
-    let v = u16_to_le_bytes(OUTER_VERSION);
-    let i = instance_id;
-    let e = u64_to_le_bytes(epoch.0);
-    let s = u64_to_le_bytes(sequence.0);
-    let n = u32_to_le_bytes(length);
-    [
-        m[0],
-        m[1],
-        m[2],
-        m[3],
-        v[0],
-        v[1],
-        record_type,
-        0,
-        i[0],
-        i[1],
-        i[2],
-        i[3],
-        i[4],
-        i[5],
-        i[6],
-        i[7],
-        i[8],
-        i[9],
-        i[10],
-        i[11],
-        i[12],
-        i[13],
-        i[14],
-        i[15],
-        e[0],
-        e[1],
-        e[2],
-        e[3],
-        e[4],
-        e[5],
-        e[6],
-        e[7],
-        s[0],
-        s[1],
-        s[2],
-        s[3],
-        s[4],
-        s[5],
-        s[6],
-        s[7],
-        n[0],
-        n[1],
-        n[2],
-        n[3],
-    ]
+    let magic = OUTER_MAGIC;
+    let version = u16_to_le_bytes(OUTER_VERSION);
+    let type_and_flags = [record_type, 0];
+    let epoch_bytes = u64_to_le_bytes(epoch.0);
+    let sequence_bytes = u64_to_le_bytes(sequence.0);
+    let length_bytes = u32_to_le_bytes(length);
+    let mut header = [0u8; 44];
+    copy_at(&mut header, 0, &magic);
+    copy_at(&mut header, 4, &version);
+    copy_at(&mut header, 6, &type_and_flags);
+    copy_at(&mut header, 8, &instance_id);
+    copy_at(&mut header, 24, &epoch_bytes);
+    copy_at(&mut header, 32, &sequence_bytes);
+    copy_at(&mut header, 40, &length_bytes);
+    header
 }
 
 // Nothing is written.

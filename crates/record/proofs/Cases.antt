@@ -7,119 +7,31 @@ use native.Mathlib.Omega.{arith}
 use lib.ListN.{length, length-append}
 use lib.Dec.{eqb, leb}
 use borrow.Author.Tests.{le-leb, lt-leb, eq-eqb, ne-eqb, eqb-true, eqb-false, leb-true, not-true, not-false}
-use Rattle.protocol.specs.Bytes.{fromLe}
-use Rattle.protocol.specs.Refusals.{pick, refusal, none, first, passes}
-use Rattle.protocol.specs.Header.{magic, magicOf, versionOf, typeOf, flagsOf, instanceOf, epochOf, sequenceOf, lengthOf, headerBytes}
+use Rattle.wire.specs.Bytes.{fromLe}
+use Rattle.wire.specs.Refusals.{pick, refusal, none, first, passes}
+use Rattle.wire.specs.Header.{magic, magicOf, versionOf, typeOf, flagsOf, instanceOf, epochOf, sequenceOf, lengthOf, headerBytes}
 use Rattle.protocol.specs.Outer.{maxPayload, windowOk, creditOk, valueOf, outcome, write, roomRow, putRecord}
-use Rattle.protocol.specs.declared.Epoch.{Epoch}
-use Rattle.protocol.specs.declared.Sequence.{Sequence}
-use Rattle.protocol.specs.declared.refusal.Refusal.{Refusal}
+use Rattle.wire.specs.declared.Epoch.{Epoch}
+use Rattle.wire.specs.declared.Sequence.{Sequence}
+use Rattle.wire.specs.declared.refusal.Refusal.{Refusal}
 use Rattle.protocol.specs.declared.outer.Written.{Written}
-use Rattle.protocol.proofs.Rows.{picked, passed, and-right, no-rows, row-stops, row-passes, rows-stop, rows-pass}
-use Rattle.protocol.proofs.Headers.{header-length}
-use Rattle.record.specs.Types.{codeOf, typeAt, typeOk, bootstrap, lengthOk, errorOf, errorAt}
+use Rattle.wire.proofs.Rows.{picked, passed, and-right, no-rows, row-stops, row-passes, rows-stop, rows-pass}
+use Rattle.wire.proofs.Headers.{header-length}
+use Rattle.types.proofs.Cases.{known-code, code-low, unknown-code, length-limit}
+use Rattle.types.specs.Types.{codeOf, typeAt, typeOk, bootstrap, lengthOk, errorOf, errorAt}
 use Rattle.record.specs.Record.{allZero, lengthRow, bootstrapRow, payloadRows, payloadChecks, restRows, headerRows, headerChecks, typeFrom, recordWith, recordOf, noRecord, parseHeader}
 use Rattle.record.specs.Record.{recordRows, encodeRows, recordBytes, encodeRecord, noValue, valueIn, errorIn}
-use Rattle.record.specs.declared.types.RecordType.{RecordType}
-use Rattle.record.specs.declared.types.RecordType.the-variants.{GuestAttach, HostAttach, Reset, Ack, Data, Wait, Ready, Error, Credit}
-use Rattle.record.specs.declared.types.TypeLookup.{TypeLookup}
-use Rattle.record.specs.declared.types.TypeLookup.the-variants.{Known, Unknown}
-use Rattle.record.specs.declared.types.ErrorCode.{ErrorCode}
-use Rattle.record.specs.declared.types.ErrorCode.the-variants.{Authentication}
-use Rattle.record.specs.declared.types.ErrorLookup.{ErrorLookup}
-use Rattle.record.specs.declared.types.ErrorLookup.the-variants as Found
+use Rattle.types.specs.declared.RecordType.{RecordType}
+use Rattle.types.specs.declared.RecordType.the-variants.{GuestAttach, HostAttach, Reset, Ack, Data, Wait, Ready, Error, Credit}
+use Rattle.types.specs.declared.TypeLookup.{TypeLookup}
+use Rattle.types.specs.declared.TypeLookup.the-variants.{Known, Unknown}
+use Rattle.types.specs.declared.ErrorCode.{ErrorCode}
+use Rattle.types.specs.declared.ErrorCode.the-variants.{Authentication}
+use Rattle.types.specs.declared.ErrorLookup.{ErrorLookup}
+use Rattle.types.specs.declared.ErrorLookup.the-variants as Found
 use Rattle.record.specs.declared.record.Record.{Record}
 use Rattle.record.specs.declared.record.ParsedHeader.{ParsedHeader}
 use Rattle.record.specs.declared.record.Value.{Value}
-
--- ---- types
--- a code that stands for a type is that type's, and one that stands for none is outside 1 to 9
-module _ (n : ℕ) where
-  arm : (k : ℕ) (u t : RecordType) → codeOf u ≡ k → eqb n k ≡ true → Known u ≡ Known t → codeOf t ≡ n
-  arm k u t c e q = let z : u ≡ t = cc in ap codeOf (sym z) ∙ c ∙ sym (eqb-true n k e)
-
-  pub known-code : (t : RecordType) → typeAt n ≡ Known t → codeOf t ≡ n
-  unfolding typeAt
-  known-code t =
-      let P : TypeLookup → Type 0 = λ (l : TypeLookup). l ≡ Known t → codeOf t ≡ n in
-      picked P (eqb n 1) (arm 1 GuestAttach t refl)
-      (λ _. picked P (eqb n 2) (arm 2 HostAttach t refl)
-      (λ _. picked P (eqb n 3) (arm 3 Reset t refl)
-      (λ _. picked P (eqb n 4) (arm 4 Ack t refl)
-      (λ _. picked P (eqb n 5) (arm 5 Data t refl)
-      (λ _. picked P (eqb n 6) (arm 6 Wait t refl)
-      (λ _. picked P (eqb n 7) (arm 7 Ready t refl)
-      (λ _. picked P (eqb n 8) (arm 8 Error t refl)
-      (λ _. picked P (eqb n 9) (arm 9 Credit t refl) (λ _ q. cc)))))))))
-
-pub code-low : (t : RecordType) → typeOk (codeOf t) ≡ true
-code-low GuestAttach = refl
-code-low HostAttach = refl
-code-low Reset = refl
-code-low Ack = refl
-code-low Data = refl
-code-low Wait = refl
-code-low Ready = refl
-code-low Error = refl
-code-low Credit = refl
-
-pub code-type : (t : RecordType) → typeAt (codeOf t) ≡ Known t
-unfolding typeAt
-code-type GuestAttach = refl
-code-type HostAttach = refl
-code-type Reset = refl
-code-type Ack = refl
-code-type Data = refl
-code-type Wait = refl
-code-type Ready = refl
-code-type Error = refl
-code-type Credit = refl
-
-above : (k n : ℕ) → k ≤ n → (n ≡ k → ⊥) → k + 1 ≤ n
-above k n h e = omega arith
-
-pub unknown-code : (n : ℕ) → typeAt n ≡ Unknown → typeOk n ≡ false
-unfolding typeAt
-unknown-code n =
-    let P : TypeLookup → Type 0 = λ (l : TypeLookup). l ≡ Unknown → typeOk n ≡ false in
-    picked P (eqb n 1) (λ _ q. cc)
-    (λ a. picked P (eqb n 2) (λ _ q. cc)
-    (λ b. picked P (eqb n 3) (λ _ q. cc)
-    (λ c. picked P (eqb n 4) (λ _ q. cc)
-    (λ d. picked P (eqb n 5) (λ _ q. cc)
-    (λ e. picked P (eqb n 6) (λ _ q. cc)
-    (λ f. picked P (eqb n 7) (λ _ q. cc)
-    (λ g. picked P (eqb n 8) (λ _ q. cc)
-    (λ h. picked P (eqb n 9) (λ _ q. cc)
-    (λ i _. outside (eqb-false n 1 a) (eqb-false n 2 b) (eqb-false n 3 c) (eqb-false n 4 d) (eqb-false n 5 e) (eqb-false n 6 f) (eqb-false n 7 g) (eqb-false n 8 h) (eqb-false n 9 i))))))))))
-  where
-    high : 1 ≤ n → (n ≡ 1 → ⊥) → (n ≡ 2 → ⊥) → (n ≡ 3 → ⊥) → (n ≡ 4 → ⊥) → (n ≡ 5 → ⊥) → (n ≡ 6 → ⊥) → (n ≡ 7 → ⊥) → (n ≡ 8 → ⊥) → (n ≡ 9 → ⊥) → 10 ≤ n
-    high low a b c d e f g h i = above 9 n (above 8 n (above 7 n (above 6 n (above 5 n (above 4 n (above 3 n (above 2 n (above 1 n low a) b) c) d) e) f) g) h) i
-
-    by : (t : Bool) → leb 1 n ≡ t → (1 ≤ n → 10 ≤ n) → t && leb n 9 ≡ false
-    by true q k = lt-leb n 9 (k (leb-true 1 n q))
-    by false q k = refl
-
-    outside : (n ≡ 1 → ⊥) → (n ≡ 2 → ⊥) → (n ≡ 3 → ⊥) → (n ≡ 4 → ⊥) → (n ≡ 5 → ⊥) → (n ≡ 6 → ⊥) → (n ≡ 7 → ⊥) → (n ≡ 8 → ⊥) → (n ≡ 9 → ⊥) → typeOk n ≡ false
-    outside a b c d e f g h i = by (leb 1 n) refl (λ low. high low a b c d e f g h i)
-
-pub only-error : (e : ErrorCode) → 1 ≡ errorOf e
-only-error Authentication = refl
-
-pub data-empty : (n : ℕ) → n < 1 → false ≡ leb 1 n && leb n maxPayload
-data-empty n h = simp (lt-leb 1 n h)
-
-pub data-some : (n : ℕ) → 1 ≤ n → leb n maxPayload ≡ leb 1 n && leb n maxPayload
-data-some n h = simp (le-leb 1 n h)
-
--- no length above the largest payload passes
-pub length-limit : (t n : ℕ) → lengthOk t n ≡ true → n ≤ 65536
-unfolding lengthOk
-length-limit t n =
-    let P : Bool → Type 0 = λ (b : Bool). b ≡ true → n ≤ 65536 in
-    picked P (eqb t 2) (λ _ e. omega (arith, eqb-true))
-    (λ _. picked P (eqb t 5) (λ _ e. leb-true n 65536 (and-right (leb 1 n) (leb n 65536) e))
-    (λ _. picked P (eqb t 4 || (eqb t 8 || eqb t 9)) (λ _ e. omega (arith, eqb-true)) (λ _ e. omega (arith, eqb-true))))
 
 -- ---- a check of one row
 module _ (t b : Bool) (r x : Refusal) (eb : b ≡ t) where

@@ -4,18 +4,18 @@ use mathlib.Core.Bool.{Bool, true, false, not, _&&_, _||_}
 use mathlib.Core.List.{List, [], _∷_, _++_}
 use lib.ListN.{length, replicate}
 use lib.Dec.{eqb, leb}
-use Rattle.protocol.specs.Bytes.{fromLe}
-use Rattle.protocol.specs.Refusals.{pick, refusal, none, first, passes}
-use Rattle.protocol.specs.Header.{magic, magicOf, versionOf, typeOf, flagsOf, instanceOf, epochOf, sequenceOf, lengthOf, headerBytes}
+use Rattle.wire.specs.Bytes.{fromLe}
+use Rattle.wire.specs.Refusals.{pick, refusal, none, first, passes}
+use Rattle.wire.specs.Header.{magic, magicOf, versionOf, typeOf, flagsOf, instanceOf, epochOf, sequenceOf, lengthOf, headerBytes}
 use Rattle.protocol.specs.Outer.{windowOk, creditOk, valueOf, Outcome, roomRow, write}
-use Rattle.protocol.specs.declared.refusal.Refusal.{Refusal}
-use Rattle.record.specs.Types.{codeOf, typeAt, typeOk, bootstrap, lengthOk, errorAt}
-use Rattle.record.specs.declared.types.RecordType.{RecordType}
-use Rattle.record.specs.declared.types.RecordType.the-variants.{GuestAttach}
-use Rattle.record.specs.declared.types.TypeLookup.{TypeLookup}
-use Rattle.record.specs.declared.types.TypeLookup.the-variants.{Known, Unknown}
-use Rattle.record.specs.declared.types.ErrorLookup.{ErrorLookup}
-use Rattle.record.specs.declared.types.ErrorLookup.the-variants as Found
+use Rattle.wire.specs.declared.refusal.Refusal.{Refusal}
+use Rattle.types.specs.Types.{codeOf, typeAt, typeOk, bootstrap, lengthOk, errorAt}
+use Rattle.types.specs.declared.RecordType.{RecordType}
+use Rattle.types.specs.declared.RecordType.the-variants.{GuestAttach}
+use Rattle.types.specs.declared.TypeLookup.{TypeLookup}
+use Rattle.types.specs.declared.TypeLookup.the-variants.{Known, Unknown}
+use Rattle.types.specs.declared.ErrorLookup.{ErrorLookup}
+use Rattle.types.specs.declared.ErrorLookup.the-variants as Found
 use Rattle.record.specs.declared.record.Record.{Record}
 use Rattle.record.specs.declared.record.ParsedHeader.{ParsedHeader}
 use Rattle.record.specs.declared.record.Value.{Value}

@@ -1,3 +1,2 @@
-// Validated records: their types, checks and encoding (the first half of nvxs/record.rs).
+// Validated records: their checks and encoding (the first half of nvxs/record.rs).
 pub mod record;
-pub mod types;

@@ -1,12 +1,4 @@
 // Records: what a header says, the checks on header and payload, the encoder, and a record's asks.
-use crate::types::ErrorCode;
-use crate::types::ErrorLookup;
-use crate::types::RecordType;
-use crate::types::TypeLookup;
-use protocol::Epoch;
-use protocol::Sequence;
-use protocol::bytes::u32_from_le_bytes;
-use protocol::fields;
 use protocol::outer::OUTER_MAGIC;
 use protocol::outer::OUTER_VERSION;
 use protocol::outer::Written;
@@ -15,15 +7,23 @@ use protocol::outer::encode_header;
 use protocol::outer::put_record;
 use protocol::outer::value;
 use protocol::outer::window_ok;
-use protocol::refusal::Refusal;
+use types::ErrorCode;
+use types::ErrorLookup;
+use types::RecordType;
+use types::TypeLookup;
+use wire::Epoch;
+use wire::Sequence;
+use wire::bytes::u32_from_le_bytes;
+use wire::fields;
+use wire::refusal::Refusal;
 ghost use mathlib.Core.Path.{_≡_};
 ghost use mathlib.Core.Bool.{_&&_};
 ghost use mathlib.Core.List.{[], _∷_};
 ghost use lib.ListN.{length};
 ghost use lib.Dec.{eqb};
-ghost use Rattle.protocol.specs.Refusals.{refusal, first};
+ghost use Rattle.wire.specs.Refusals.{refusal, first};
 ghost use Rattle.protocol.specs.Outer.{outcome, windowOk, creditOk};
-ghost use Rattle.record.specs.Types.{codeOf};
+ghost use Rattle.types.specs.Types.{codeOf};
 ghost use Rattle.record.specs.Record.{allZero, noRecord, lengthRow, bootstrapRow, restRows, recordRows, payloadChecks, recordWith, recordOf, headerChecks, parseHeader, encodeRecord, valueIn, windowIn, creditIn, errorIn};
 
 // A record that was decoded and validated, without its payload.

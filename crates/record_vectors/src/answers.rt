@@ -4,10 +4,10 @@ use parser::parser::Pushed;
 use parser::parser::RecordParser;
 use parser::parser::payload;
 use protocol::outer::Written;
-use protocol::refusal::Refusal;
 use record::record::Record;
 use record::record::Value;
-use record::types::ErrorLookup;
+use types::ErrorLookup;
+use wire::refusal::Refusal;
 
 // A refusal's number and its first two figures.
 fn refusal(refusal: Refusal) {

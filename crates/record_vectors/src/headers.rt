@@ -2,10 +2,10 @@
 use crate::records::Fields;
 use crate::records::in_pieces;
 use crate::records::there_and_back;
-use protocol::Epoch;
-use protocol::Sequence;
 use protocol::outer::encode_header;
-use record::types::RecordType;
+use types::RecordType;
+use wire::Epoch;
+use wire::Sequence;
 
 // The header of a RESET with another byte at one or two indexes.
 fn changed(index: usize, byte: u8, second: usize, other: u8) {

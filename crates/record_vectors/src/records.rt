@@ -1,13 +1,13 @@
 // One record through the encoder and through a parser.
 use crate::answers;
 use parser::parser::RecordParser;
-use protocol::Epoch;
-use protocol::Sequence;
 use protocol::outer::Written;
 use protocol::outer::encode_header;
 use protocol::outer::put_record;
 use record::record::encode_record;
-use record::types::RecordType;
+use types::RecordType;
+use wire::Epoch;
+use wire::Sequence;
 ghost use mathlib.Core.Path.{_≡_};
 ghost use Prim.Native.Nat.{_≤_, min};
 

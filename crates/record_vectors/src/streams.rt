@@ -1,10 +1,10 @@
 // Streams of several pushes, a line for each push.
 use crate::answers;
 use parser::parser::RecordParser;
-use protocol::Epoch;
-use protocol::Sequence;
 use record::record::encode_record;
-use record::types::RecordType;
+use types::RecordType;
+use wire::Epoch;
+use wire::Sequence;
 
 // One push, on a line; and the parser after it.
 fn push(parser: RecordParser, piece: &[u8], stage: &mut [u8]) -> RecordParser {

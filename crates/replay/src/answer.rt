@@ -1,14 +1,25 @@
-// What a call answers, and its bytes (tests/differential/FORMAT.md).
+// What a call answers: its bytes (tests/differential/FORMAT.md), made field by field.
 use crate::frame::after;
-use protocol::bytes::copy_at;
-use protocol::bytes::u32_to_le_bytes;
-use protocol::bytes::u64_to_le_bytes;
-use protocol::refusal::Refusal;
-ghost use Prim.Native.Nat.{_≤_};
-ghost use lib.ListN.{length};
+use session::session::Identity;
+use wire::bytes::copy_at;
+use wire::bytes::u32_to_le_bytes;
+use wire::bytes::u64_to_le_bytes;
+use wire::refusal::Refusal;
 
 // Bytes of an answer's head.
 pub const HEAD: usize = 128;
+// Places of fields in the head.
+pub const EVENT: usize = 5;
+
+pub const PLACE: usize = 6;
+
+pub const COUNT: usize = 64;
+
+pub const NEXT: usize = 72;
+
+pub const IDENTITY: usize = 80;
+
+pub const TYPE: usize = 115;
 
 // A part of the call's input (1), of the memory (2), of the stage that starts there (3), or nothing
 // (0). 1 and 3 are had by the port's own `payload`.
@@ -24,25 +35,16 @@ pub struct Ask {
     pub value: u32,
 }
 
-// The answer of a call. What does not apply is 0.
+// The answer of a call. The page has its head and the bytes of its state; what does not apply is 0.
 pub struct Answer {
-    pub refusal: Refusal,
-    pub event: u8,
-    pub place: u8,
-    pub record_type: u8,
-    pub count: u64,
-    pub next: u64,
-    pub instance_id: [u8; 16],
-    pub epoch: u64,
-    pub window: Ask,
-    pub credit: Ask,
-    pub error: Ask,
+    pub page: [u8; 320],
+    pub state: usize,
     pub payload: Part,
     pub written: Part,
 }
 
 // No part.
-pub(crate) fn nothing() -> Part {
+fn nothing() -> Part {
     Part {
         source: 0,
         from: 0,
@@ -50,113 +52,128 @@ pub(crate) fn nothing() -> Part {
     }
 }
 
-// No value.
-pub(crate) fn no_value() -> Ask {
-    Ask { mark: 0, value: 0 }
+// The answer with another page.
+pub(crate) fn paged(answer: Answer, page: [u8; 320]) -> Answer {
+    let payload = answer.payload;
+    let written = answer.written;
+    Answer {
+        page,
+        state: answer.state,
+        payload,
+        written,
+    }
 }
 
-// An answer with a refusal alone; the blank answer where its number is 0.
-pub(crate) fn refused(refusal: Refusal) -> Answer {
+// Stores a byte.
+pub(crate) fn put1(answer: Answer, at: usize, value: u8) -> Answer {
+    let mut page = answer.page;
+    if at < 320 {
+        page[at] = value;
+    }
+    paged(answer, page)
+}
+
+// Stores a number of four bytes.
+pub(crate) fn put4(answer: Answer, at: usize, value: u32) -> Answer {
+    let b = u32_to_le_bytes(value);
+    let mut page = answer.page;
+    copy_at(&mut page, at, &b);
+    paged(answer, page)
+}
+
+// Stores a number of eight bytes.
+pub(crate) fn put8(answer: Answer, at: usize, value: u64) -> Answer {
+    let b = u64_to_le_bytes(value);
+    let mut page = answer.page;
+    copy_at(&mut page, at, &b);
+    paged(answer, page)
+}
+
+// Stores sixteen bytes.
+fn put16(answer: Answer, at: usize, bytes: [u8; 16]) -> Answer {
+    let mut page = answer.page;
+    copy_at(&mut page, at, &bytes);
+    paged(answer, page)
+}
+
+// Stores an identity: 24 bytes.
+pub(crate) fn put_identity(answer: Answer, at: usize, identity: Identity) -> Answer {
+    let instance_id = identity.instance_id;
+    let epoch = identity.epoch;
+    put8(put16(answer, at, instance_id), after(at, 16), epoch.0)
+}
+
+// Stores a refusal's figures and fields: 56 bytes.
+pub(crate) fn put_figures(answer: Answer, at: usize, refusal: Refusal) -> Answer {
+    let expected = refusal.expected;
+    let actual = refusal.actual;
+    let mut x = put8(answer, at, refusal.a);
+    x = put8(x, after(at, 8), refusal.b);
+    x = put8(x, after(at, 16), refusal.c);
+    x = put16(x, after(at, 24), expected);
+    put16(x, after(at, 40), actual)
+}
+
+// Stores a value that may be missing: its mark, and the value.
+pub(crate) fn put_ask(answer: Answer, mark: usize, at: usize, ask: Ask) -> Answer {
+    put1(put4(answer, at, ask.value), mark, ask.mark)
+}
+
+// The answer that says nothing.
+pub(crate) fn blank() -> Answer {
     Answer {
-        refusal,
-        event: 0,
-        place: 0,
-        record_type: 0,
-        count: 0,
-        next: 0,
-        instance_id: [0u8; 16],
-        epoch: 0,
-        window: no_value(),
-        credit: no_value(),
-        error: no_value(),
+        page: [0u8; 320],
+        state: 0,
         payload: nothing(),
         written: nothing(),
     }
 }
 
-// The answer that says nothing.
-pub(crate) fn blank() -> Answer {
-    refused(Refusal::none())
+// An answer with a refusal alone; the blank answer where its number is 0.
+pub(crate) fn refused(refusal: Refusal) -> Answer {
+    put_figures(put1(blank(), 7, refusal.number), 8, refusal)
 }
 
-// Stores four bytes.
-fn put_four(page: &mut [u8], at: usize, bytes: [u8; 4]) {
-    copy_at(page, at, &bytes);
+// The answer with so many bytes of state.
+pub(crate) fn stated(answer: Answer, state: usize) -> Answer {
+    let page = answer.page;
+    let payload = answer.payload;
+    let written = answer.written;
+    Answer {
+        page,
+        state,
+        payload,
+        written,
+    }
 }
 
-// Stores a number of four bytes.
-pub(crate) fn put4(page: &mut [u8], at: usize, value: u32) {
-    put_four(page, at, u32_to_le_bytes(value));
+// The answer with a payload.
+pub(crate) fn paying(answer: Answer, payload: Part) -> Answer {
+    let page = answer.page;
+    let written = answer.written;
+    Answer {
+        page,
+        state: answer.state,
+        payload,
+        written,
+    }
 }
 
-// Stores a number of eight bytes.
-pub(crate) fn put8(page: &mut [u8], at: usize, value: u64) {
-    let b = u64_to_le_bytes(value);
-    copy_at(page, at, &b);
-}
-
-// Stores sixteen bytes.
-pub(crate) fn put16(page: &mut [u8], at: usize, bytes: [u8; 16]) {
-    copy_at(page, at, &bytes);
-}
-
-// Stores a refusal's figures and fields: 56 bytes.
-pub(crate) fn put_figures(page: &mut [u8], at: usize, refusal: Refusal) {
-    let expected = refusal.expected;
-    let actual = refusal.actual;
-    put8(page, at, refusal.a);
-    put8(page, after(at, 8), refusal.b);
-    put8(page, after(at, 16), refusal.c);
-    put16(page, after(at, 24), expected);
-    put16(page, after(at, 40), actual);
-}
-
-// Stores the marks of three values that may be missing, the record's type, and the values.
-fn put_asks(page: &mut [u8], answer: Answer) {
-    let window = answer.window;
-    let credit = answer.credit;
-    let error = answer.error;
-    let marks = [window.mark, credit.mark, error.mark, answer.record_type];
-    put_four(page, 112, marks);
-    put4(page, 116, window.value);
-    put4(page, 120, credit.value);
-    put4(page, 124, error.value);
+// The answer with bytes written.
+pub(crate) fn writing(answer: Answer, written: Part) -> Answer {
+    let page = answer.page;
+    let payload = answer.payload;
+    Answer {
+        page,
+        state: answer.state,
+        payload,
+        written,
+    }
 }
 
 // The low four bytes of a count.
 pub(crate) fn number4(x: usize) -> u32 {
     (x % 4294967296) as u32
-}
-
-// Stores the head up to the refusal: bytes 0 to 63.
-fn put_refusal(page: &mut [u8], op: u8, answer: Answer, state: usize) {
-    let payload = answer.payload;
-    let written = answer.written;
-    let refusal = answer.refusal;
-    let first = [op, answer.event, answer.place, refusal.number];
-    put4(page, 0, total(payload.count, written.count, state));
-    put_four(page, 4, first);
-    put_figures(page, 8, refusal);
-}
-
-// Stores count, next, identity and the two lengths: bytes 64 to 111.
-fn put_numbers(page: &mut [u8], answer: Answer) {
-    let payload = answer.payload;
-    let written = answer.written;
-    let instance_id = answer.instance_id;
-    put8(page, 64, answer.count);
-    put8(page, 72, answer.next);
-    put16(page, 80, instance_id);
-    put8(page, 96, answer.epoch);
-    put4(page, 104, number4(payload.count));
-    put4(page, 108, number4(written.count));
-}
-
-// Stores the answer's head. The state's bytes are there already, from byte 128 on.
-pub(crate) fn put_head(page: &mut [u8], op: u8, answer: Answer, state: usize) {
-    put_refusal(page, op, answer, state);
-    put_numbers(page, answer);
-    put_asks(page, answer);
 }
 
 // The bytes of the whole answer; 0 where a count is out of all bounds.
@@ -173,16 +190,12 @@ fn total(payload: usize, written: usize, state: usize) -> u32 {
     (128 + payload + written + state) as u32
 }
 
-// Appends bytes to the answers and gives the place after them; 0 where they do not fit.
-pub(crate) fn append(out: &mut [u8], at: usize, bytes: &[u8]) -> usize
-    ensures { λ r. ⌜ r ≤ length (now (out .exit)) ⌝ }
-{
-    if out.len() < at {
-        return 0;
-    }
-    if out.len() - at < bytes.len() {
-        return 0;
-    }
-    copy_at(out, at, bytes);
-    at + bytes.len()
+// The answer with the operation and the lengths.
+pub(crate) fn finished(answer: Answer, op: u8) -> Answer {
+    let payload = answer.payload;
+    let written = answer.written;
+    let mut x = put1(answer, 4, op);
+    x = put4(x, 0, total(payload.count, written.count, answer.state));
+    x = put4(x, 104, number4(payload.count));
+    put4(x, 108, number4(written.count))
 }

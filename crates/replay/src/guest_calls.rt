@@ -1,18 +1,25 @@
 // The calls of a guest's session: operations 10 to 16, and 50.
 use crate::answer::Answer;
 use crate::answer::Ask;
+use crate::answer::COUNT;
+use crate::answer::EVENT;
+use crate::answer::IDENTITY;
+use crate::answer::NEXT;
 use crate::answer::blank;
+use crate::answer::put_ask;
+use crate::answer::put_identity;
+use crate::answer::put1;
+use crate::answer::put8;
 use crate::answer::refused;
+use crate::answer::stated;
 use crate::frame::Frame;
 use crate::frame::OUTPUT;
+use crate::frame::area;
 use crate::frame::low;
 use crate::frame::within;
-use crate::session_calls::Fields;
-use crate::session_calls::Report;
-use crate::session_calls::identified;
+use crate::outer_calls::wrote;
 use crate::session_calls::put_session;
 use crate::session_calls::received;
-use crate::session_calls::sent;
 use guest::guest::Closed;
 use guest::guest::GuestEvent;
 use guest::guest::GuestSession;
@@ -20,9 +27,9 @@ use guest::guest::GuestState;
 use guest::guest::Received;
 use guest::guest::Sent;
 use guest::guest::WindowAnswer;
-use protocol::Sequence;
-ghost use Prim.Native.Nat.{_≤_};
-ghost use lib.ListN.{length};
+use guest_entry::credit_once;
+use guest_entry::receive_once;
+use wire::Sequence;
 
 // Where the stage stands in the memory: its first area.
 const STAGE: usize = 0;
@@ -31,11 +38,6 @@ const STAGE: usize = 0;
 pub struct Ran {
     pub guest: GuestSession,
     pub answer: Answer,
-}
-
-// A call that leaves the guest as it is.
-fn kept(guest: GuestSession, answer: Answer) -> Ran {
-    Ran { guest, answer }
 }
 
 // A state's number, in 01's order.
@@ -59,84 +61,84 @@ fn event_number(event: GuestEvent) -> u8 {
     }
 }
 
-// A call that writes, by its number.
+// A number of four bytes as one of eight.
+fn wide(x: u32) -> u64 {
+    x as u64
+}
+
+// Stores a guest's 192 bytes.
+fn put_guest(answer: Answer, g: GuestSession) -> Answer {
+    let state = g.state;
+    let due = g.receive_sequence;
+    let send = g.send_sequence;
+    let mut x = put_session(answer, state_number(state), g.parser, g.identity);
+    x = put8(x, 288, due.0);
+    x = put8(x, 296, send.0);
+    x = put8(x, 304, wide(g.window));
+    put8(x, 312, wide(g.outstanding))
+}
+
+// A call that was run: its answer shows the guest.
+fn shown(guest: GuestSession, answer: Answer) -> Ran {
+    Ran {
+        guest,
+        answer: stated(put_guest(answer, guest), 192),
+    }
+}
+
+// A call that writes, by its number: 14 is credit, 15 credit by the thin entry.
 fn write(g: GuestSession, op: u8, value: u32, input: &[u8], output: &mut [u8], at: usize) -> Sent {
     match op {
         10 => g.attach(output, at),
         12 => g.acknowledge(value, output, at),
         13 => g.send(input, output, at),
-        _ => g.credit(value, output, at),
+        14 => g.credit(value, output, at),
+        _ => credit_once(g, value, output, at),
     }
 }
 
-// The same with a part of the memory as its output.
-fn write_to(g: GuestSession, f: Frame, input: &[u8], memory: &mut [u8], end: usize) -> Sent
-    requires { ⌜ (196800 ≤ end) × (end ≤ length (now memory)) ⌝ }
-{
-    let value = low(f.a);
-    let at = f.b as usize;
-    write(g, f.op, value, input, &mut memory[OUTPUT..end], at)
+// The number by which `write` goes.
+fn write_number(op: u8, thin: bool) -> u8 {
+    if op != 14 {
+        return op;
+    }
+    if thin { 15 } else { 14 }
 }
 
 fn writing(g: GuestSession, f: Frame, input: &[u8], memory: &mut [u8]) -> Ran {
-    let end = OUTPUT + within(f.a / 4294967296);
-    if memory.len() < end {
-        return kept(g, blank());
-    }
-    let s = write_to(g, f, input, memory, end);
-    let guest = s.session;
-    let refusal = s.refusal;
-    Ran {
-        guest,
-        answer: sent(refusal, s.count, s.next, f.b as usize),
-    }
+    let output = area(memory, OUTPUT, within(f.a / 4294967296));
+    let at = f.b as usize;
+    let s = write(g, write_number(f.op, f.thin), low(f.a), input, output, at);
+    shown(s.session, wrote(s.refusal, s.next, at, s.count as u64))
 }
 
-// What a receive answered.
-fn report(r: Received) -> Report {
-    let refusal = r.refusal;
-    let event = r.event;
-    let identity = r.identity;
-    let place = r.place;
-    Report {
-        refusal,
-        consumed: r.consumed,
-        event: event_number(event),
-        data: 2,
-        identity,
-        place,
-        length: r.length,
+// receive, or receive by the thin entry.
+fn take(g: GuestSession, thin: bool, input: &[u8], stage: &mut [u8]) -> Received {
+    if thin {
+        return receive_once(g, input, stage);
     }
-}
-
-// receive with a part of the memory as its stage.
-fn receive_to(g: GuestSession, input: &[u8], memory: &mut [u8], end: usize) -> Received
-    requires { ⌜ end ≤ length (now memory) ⌝ }
-{
-    g.receive(input, &mut memory[STAGE..end])
+    g.receive(input, stage)
 }
 
 fn receive(g: GuestSession, f: Frame, input: &[u8], memory: &mut [u8]) -> Ran {
-    let end = within(f.a);
-    if memory.len() < end {
-        return kept(g, blank());
-    }
-    let r = receive_to(g, input, memory, end);
-    let guest = r.session;
-    Ran {
-        guest,
-        answer: received(report(r), STAGE),
-    }
+    let r = take(g, f.thin, input, area(memory, STAGE, within(f.a)));
+    let event = r.event;
+    let place = r.place;
+    let answer = received(
+        r.refusal,
+        r.consumed,
+        event_number(event),
+        r.identity,
+        place,
+        r.length,
+        STAGE,
+    );
+    shown(r.session, answer)
 }
 
 fn disconnect(g: GuestSession) -> Ran {
     let r: Closed = g.disconnect();
-    let guest = r.session;
-    let refusal = r.refusal;
-    Ran {
-        guest,
-        answer: refused(refusal),
-    }
+    shown(r.session, refused(r.refusal))
 }
 
 // The window, where there is one.
@@ -151,25 +153,19 @@ fn ask(w: WindowAnswer) -> Ask {
 fn who(g: GuestSession) -> Answer {
     let asked = g.state();
     let state = asked.state;
-    let refusal = asked.refusal;
     let held = g.identity();
     let optional = held.identity;
-    let identity = optional.identity;
-    let mut answer = identified(refused(refusal), identity);
-    answer.event = state_number(state);
-    answer
+    let answer = put1(refused(asked.refusal), EVENT, state_number(state));
+    put_identity(answer, IDENTITY, optional.identity)
 }
 
 // state, identity, window, outstanding and needed.
 fn asks(g: GuestSession) -> Answer {
-    let mut answer = who(g);
-    let window = ask(g.window());
     let outstanding = g.outstanding();
     let needed = g.needed();
-    answer.window = window;
-    answer.count = outstanding.outstanding as u64;
-    answer.next = needed.count as u64;
-    answer
+    let mut answer = put_ask(who(g), 112, 116, ask(g.window()));
+    answer = put8(answer, COUNT, outstanding.outstanding as u64);
+    put8(answer, NEXT, needed.count as u64)
 }
 
 // The guest with other sequence numbers: those that no list of calls reaches.
@@ -188,35 +184,23 @@ fn loaded(g: GuestSession, send: u64, due: u64) -> GuestSession {
     }
 }
 
-pub(crate) fn call(g: GuestSession, f: Frame, input: &[u8], memory: &mut [u8]) -> Ran {
+// Runs a call of the guest; 1 makes the guest fresh. Any other call keeps the guest and has the
+// blank answer.
+pub(crate) fn turn(g: GuestSession, f: Frame, input: &[u8], memory: &mut [u8]) -> Ran {
     let op = f.op;
     match op {
+        1 => Ran {
+            guest: GuestSession::new(),
+            answer: blank(),
+        },
         10 | 12 | 13 | 14 => writing(g, f, input, memory),
         11 => receive(g, f, input, memory),
         15 => disconnect(g),
-        16 => kept(g, asks(g)),
-        50 => kept(loaded(g, f.a, f.b), blank()),
-        _ => kept(g, blank()),
-    }
-}
-
-// Stores a guest's 192 bytes.
-pub(crate) fn put_guest(page: &mut [u8], g: GuestSession) {
-    let state = g.state;
-    let parser = g.parser;
-    let identity = g.identity;
-    let due = g.receive_sequence;
-    let send = g.send_sequence;
-    put_session(
-        page,
-        Fields {
-            state: state_number(state),
-            parser,
-            identity,
-            due,
-            send,
-            window: g.window,
-            outstanding: g.outstanding,
+        16 => shown(g, asks(g)),
+        50 => shown(loaded(g, f.a, f.b), blank()),
+        _ => Ran {
+            guest: g,
+            answer: blank(),
         },
-    );
+    }
 }

@@ -1,27 +1,31 @@
 // The calls of a host's session: operations 20 to 26, and 51.
 use crate::answer::Answer;
+use crate::answer::EVENT;
+use crate::answer::IDENTITY;
+use crate::answer::NEXT;
 use crate::answer::blank;
+use crate::answer::put_identity;
+use crate::answer::put1;
+use crate::answer::put8;
 use crate::answer::refused;
+use crate::answer::stated;
 use crate::frame::AREA;
 use crate::frame::Frame;
 use crate::frame::OUTPUT;
+use crate::frame::area;
 use crate::frame::within;
-use crate::session_calls::Fields;
-use crate::session_calls::Report;
-use crate::session_calls::identified;
+use crate::outer_calls::wrote;
 use crate::session_calls::put_session;
 use crate::session_calls::received;
-use crate::session_calls::sent;
 use host::host::Closed;
 use host::host::HostEvent;
 use host::host::HostSession;
 use host::host::HostState;
 use host::host::Received;
 use host::host::Sent;
-use protocol::Sequence;
-use protocol::bytes::copy_at;
-ghost use Prim.Native.Nat.{_≤_};
-ghost use lib.ListN.{length};
+use host_entry::receive_once;
+use wire::Sequence;
+use wire::bytes::copy_at;
 
 // Where the stage stands in the memory: its second area.
 const STAGE: usize = AREA;
@@ -30,11 +34,6 @@ const STAGE: usize = AREA;
 pub struct Ran {
     pub host: HostSession,
     pub answer: Answer,
-}
-
-// A call that leaves the host as it is.
-fn kept(host: HostSession, answer: Answer) -> Ran {
-    Ran { host, answer }
 }
 
 // A state's number, in 01's order.
@@ -62,6 +61,24 @@ fn event_number(event: HostEvent) -> u8 {
     }
 }
 
+// Stores a host's 192 bytes.
+fn put_host(answer: Answer, h: HostSession) -> Answer {
+    let state = h.state;
+    let due = h.receive_sequence;
+    let send = h.send_sequence;
+    let mut x = put_session(answer, state_number(state), h.parser, h.identity);
+    x = put8(x, 288, due.0);
+    put8(x, 296, send.0)
+}
+
+// A call that was run: its answer shows the host.
+fn shown(host: HostSession, answer: Answer) -> Ran {
+    Ran {
+        host,
+        answer: stated(put_host(answer, host), 192),
+    }
+}
+
 // The 32 bytes of a capability.
 fn bytes32(input: &[u8]) -> [u8; 32] {
     let mut b = [0u8; 32];
@@ -69,112 +86,67 @@ fn bytes32(input: &[u8]) -> [u8; 32] {
     b
 }
 
-// attach with a part of the memory as its output.
-fn attach_to(h: HostSession, input: &[u8], memory: &mut [u8], end: usize, at: usize) -> Sent
-    requires { ⌜ (196800 ≤ end) × (end ≤ length (now memory)) ⌝ }
-{
-    let capability = bytes32(input);
-    h.attach(capability, &mut memory[OUTPUT..end], at)
-}
-
-// send with a part of the memory as its output.
-fn send_to(h: HostSession, input: &[u8], memory: &mut [u8], end: usize, at: usize) -> Sent
-    requires { ⌜ (196800 ≤ end) × (end ≤ length (now memory)) ⌝ }
-{
-    h.send(input, &mut memory[OUTPUT..end], at)
-}
-
-// The host and the answer after a call that writes.
-fn wrote(s: Sent, at: usize) -> Ran {
-    let host = s.session;
-    let refusal = s.refusal;
-    Ran {
-        host,
-        answer: sent(refusal, s.count, s.next, at),
+// A call that writes: attach (20) or send.
+fn write(h: HostSession, op: u8, input: &[u8], output: &mut [u8], at: usize) -> Sent {
+    if op == 20 {
+        return h.attach(bytes32(input), output, at);
     }
+    h.send(input, output, at)
+}
+
+fn writing(h: HostSession, f: Frame, input: &[u8], memory: &mut [u8]) -> Ran {
+    let output = area(memory, OUTPUT, within(f.a / 4294967296));
+    let at = f.b as usize;
+    let s = write(h, f.op, input, output, at);
+    shown(s.session, wrote(s.refusal, s.next, at, s.count as u64))
 }
 
 fn attach(h: HostSession, f: Frame, input: &[u8], memory: &mut [u8]) -> Ran {
-    let end = OUTPUT + within(f.a / 4294967296);
-    let at = f.b as usize;
-    if memory.len() < end {
-        return kept(h, blank());
-    }
     if input.len() != 32 {
-        return kept(h, blank());
+        return shown(h, blank());
     }
-    wrote(attach_to(h, input, memory, end, at), at)
+    writing(h, f, input, memory)
 }
 
-fn send(h: HostSession, f: Frame, input: &[u8], memory: &mut [u8]) -> Ran {
-    let end = OUTPUT + within(f.a / 4294967296);
-    let at = f.b as usize;
-    if memory.len() < end {
-        return kept(h, blank());
+// receive, or receive by the thin entry.
+fn take(h: HostSession, thin: bool, input: &[u8], stage: &mut [u8]) -> Received {
+    if thin {
+        return receive_once(h, input, stage);
     }
-    wrote(send_to(h, input, memory, end, at), at)
-}
-
-// What a receive answered.
-fn report(r: Received) -> Report {
-    let refusal = r.refusal;
-    let event = r.event;
-    let identity = r.identity;
-    let place = r.place;
-    Report {
-        refusal,
-        consumed: r.consumed,
-        event: event_number(event),
-        data: 6,
-        identity,
-        place,
-        length: r.length,
-    }
-}
-
-// receive with a part of the memory as its stage.
-fn receive_to(h: HostSession, input: &[u8], memory: &mut [u8], end: usize) -> Received
-    requires { ⌜ (65600 ≤ end) × (end ≤ length (now memory)) ⌝ }
-{
-    h.receive(input, &mut memory[STAGE..end])
+    h.receive(input, stage)
 }
 
 fn receive(h: HostSession, f: Frame, input: &[u8], memory: &mut [u8]) -> Ran {
-    let end = STAGE + within(f.a);
-    if memory.len() < end {
-        return kept(h, blank());
-    }
-    let r = receive_to(h, input, memory, end);
-    let host = r.session;
-    Ran {
-        host,
-        answer: received(report(r), STAGE),
-    }
+    let r = take(h, f.thin, input, area(memory, STAGE, within(f.a)));
+    let event = r.event;
+    let place = r.place;
+    let answer = received(
+        r.refusal,
+        r.consumed,
+        event_number(event),
+        r.identity,
+        place,
+        r.length,
+        STAGE,
+    );
+    shown(r.session, answer)
 }
 
 fn disconnect(h: HostSession) -> Ran {
     let r: Closed = h.disconnect();
-    let host = r.session;
-    let refusal = r.refusal;
-    Ran {
-        host,
-        answer: refused(refusal),
-    }
+    shown(r.session, refused(r.refusal))
 }
 
 // state, identity and needed.
 fn asks(h: HostSession) -> Answer {
     let asked = h.state();
     let state = asked.state;
-    let refusal = asked.refusal;
     let held = h.identity();
     let optional = held.identity;
-    let identity = optional.identity;
     let needed = h.needed();
-    let mut answer = identified(refused(refusal), identity);
-    answer.event = state_number(state);
-    answer.next = needed.count as u64;
-    answer
+    let mut answer = put1(refused(asked.refusal), EVENT, state_number(state));
+    answer = put_identity(answer, IDENTITY, optional.identity);
+    put8(answer, NEXT, needed.count as u64)
 }
 
 // The host with other sequence numbers: those that no list of calls reaches.
@@ -191,36 +163,27 @@ fn loaded(h: HostSession, send_sequence: u64, due: u64) -> HostSession {
     }
 }
 
-pub(crate) fn call(h: HostSession, f: Frame, input: &[u8], memory: &mut [u8]) -> Ran {
+// Runs a call of the host; 1 makes the host fresh. Any other call keeps the host and the answer.
+pub(crate) fn turn(
+    h: HostSession,
+    answer: Answer,
+    f: Frame,
+    input: &[u8],
+    memory: &mut [u8],
+) -> Ran {
     let op = f.op;
     match op {
+        1 => Ran {
+            host: HostSession::new(),
+            answer,
+        },
         20 => attach(h, f, input, memory),
         21 => receive(h, f, input, memory),
-        23 => send(h, f, input, memory),
+        23 => writing(h, f, input, memory),
+        22 | 24 => shown(h, blank()),
         25 => disconnect(h),
-        26 => kept(h, asks(h)),
-        51 => kept(loaded(h, f.a, f.b), blank()),
-        _ => kept(h, blank()),
+        26 => shown(h, asks(h)),
+        51 => shown(loaded(h, f.a, f.b), blank()),
+        _ => Ran { host: h, answer },
     }
-}
-
-// Stores a host's 192 bytes.
-pub(crate) fn put_host(page: &mut [u8], h: HostSession) {
-    let state = h.state;
-    let parser = h.parser;
-    let identity = h.identity;
-    let due = h.receive_sequence;
-    let send = h.send_sequence;
-    put_session(
-        page,
-        Fields {
-            state: state_number(state),
-            parser,
-            identity,
-            due,
-            send,
-            window: 0,
-            outstanding: 0,
-        },
-    );
 }

@@ -1,45 +1,51 @@
 // The calls of the plain layer: operations 41 to 46.
 use crate::answer::Answer;
 use crate::answer::Ask;
+use crate::answer::COUNT;
+use crate::answer::IDENTITY;
+use crate::answer::NEXT;
 use crate::answer::Part;
+use crate::answer::TYPE;
 use crate::answer::blank;
-use crate::answer::no_value;
-use crate::answer::nothing;
+use crate::answer::put_ask;
+use crate::answer::put_identity;
+use crate::answer::put1;
+use crate::answer::put8;
 use crate::answer::refused;
+use crate::answer::writing;
 use crate::frame::Frame;
 use crate::frame::OUTPUT;
 use crate::frame::after;
+use crate::frame::area;
 use crate::frame::byte;
 use crate::frame::eight;
 use crate::frame::low;
 use crate::frame::sixteen;
 use crate::frame::within;
-use protocol::Epoch;
-use protocol::Sequence;
-use protocol::bytes::copy_at;
-use protocol::bytes::u32_from_le_bytes;
 use protocol::outer::DecodedHeader;
 use protocol::outer::DecodedPayload;
 use protocol::outer::EncodedPayload;
 use protocol::outer::Written;
-ghost use Prim.Native.Nat.{_≤_};
-ghost use lib.ListN.{length};
+use protocol::outer::encode_outer;
+use session::session::Identity;
+use wire::Epoch;
+use wire::Sequence;
+use wire::bytes::copy_at;
+use wire::bytes::u32_from_le_bytes;
+use wire::refusal::Refusal;
 
 // The answer of an operation that writes at a position of the output.
-pub(crate) fn wrote(w: Written, at: usize, count: u64) -> Answer {
-    let mut answer = refused(w.refusal);
-    if w.next <= at {
+pub(crate) fn wrote(refusal: Refusal, next: usize, at: usize, count: u64) -> Answer {
+    let answer = refused(refusal);
+    if next <= at {
         return answer;
     }
     let written = Part {
         source: 2,
         from: after(OUTPUT, at),
-        count: w.next - at,
+        count: next - at,
     };
-    answer.count = count;
-    answer.next = w.next as u64;
-    answer.written = written;
-    answer
+    writing(put8(put8(answer, COUNT, count), NEXT, next as u64), written)
 }
 
 // The fields that stand before an encoder's payload: type, instance, epoch, sequence.
@@ -61,34 +67,29 @@ pub(crate) fn encoder_fields(input: &[u8]) -> Fields {
 }
 
 // encode_outer over a part of the memory.
-fn encode_to(x: Fields, payload: &[u8], memory: &mut [u8], end: usize, at: usize) -> Written
-    requires { ⌜ (196800 ≤ end) × (end ≤ length (now memory)) ⌝ }
-{
+fn encode_to(x: Fields, payload: &[u8], output: &mut [u8], at: usize) -> Written {
     let instance_id = x.instance_id;
     let epoch = x.epoch;
     let sequence = x.sequence;
-    protocol::outer::encode_outer(
+    encode_outer(
         x.record_type,
         instance_id,
         epoch,
         sequence,
         payload,
-        &mut memory[OUTPUT..end],
+        output,
         at,
     )
 }
 
 fn encode(f: Frame, input: &[u8], memory: &mut [u8]) -> Answer {
-    let end = OUTPUT + within(f.a / 4294967296);
     let at = f.b as usize;
-    if memory.len() < end {
-        return blank();
-    }
     if input.len() < 33 {
         return blank();
     }
-    let w = encode_to(encoder_fields(input), &input[33..], memory, end, at);
-    wrote(w, at, 0)
+    let output = area(memory, OUTPUT, within(f.a / 4294967296));
+    let w = encode_to(encoder_fields(input), &input[33..], output, at);
+    wrote(w.refusal, w.next, at, 0)
 }
 
 // The answer of decode_outer_header.
@@ -97,22 +98,14 @@ fn header(d: DecodedHeader) -> Answer {
     let epoch = h.epoch;
     let sequence = h.sequence;
     let instance_id = h.instance_id;
-    let refusal = d.refusal;
-    Answer {
-        refusal,
-        event: 0,
-        place: 0,
-        record_type: h.record_type,
-        count: h.length as u64,
-        next: sequence.0,
-        instance_id,
-        epoch: epoch.0,
-        window: no_value(),
-        credit: no_value(),
-        error: no_value(),
-        payload: nothing(),
-        written: nothing(),
-    }
+    let mut answer = put_identity(
+        refused(d.refusal),
+        IDENTITY,
+        Identity { instance_id, epoch },
+    );
+    answer = put1(answer, TYPE, h.record_type);
+    answer = put8(answer, COUNT, h.length as u64);
+    put8(answer, NEXT, sequence.0)
 }
 
 // The 44 bytes of a header.
@@ -132,24 +125,20 @@ fn decode(input: &[u8]) -> Answer {
 // The answer of an encoder of four bytes.
 fn encoded(e: EncodedPayload) -> Answer {
     let refusal = e.refusal;
-    let mut answer = refused(refusal);
     if refusal.number != 0 {
-        return answer;
+        return refused(refusal);
     }
     let payload = e.payload;
     let four = Ask {
         mark: 1,
         value: u32_from_le_bytes(payload),
     };
-    answer.window = four;
-    answer
+    put_ask(blank(), 112, 116, four)
 }
 
 // The answer of a decoder of four bytes.
 fn decoded(d: DecodedPayload) -> Answer {
-    let mut answer = refused(d.refusal);
-    answer.count = d.value as u64;
-    answer
+    put8(refused(d.refusal), COUNT, d.value as u64)
 }
 
 pub(crate) fn call(f: Frame, input: &[u8], memory: &mut [u8]) -> Answer {

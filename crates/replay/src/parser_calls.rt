@@ -1,16 +1,29 @@
 // The calls of a bare parser: operations 30 to 32.
 use crate::answer::Answer;
 use crate::answer::Ask;
+use crate::answer::COUNT;
+use crate::answer::EVENT;
+use crate::answer::IDENTITY;
+use crate::answer::NEXT;
+use crate::answer::PLACE;
 use crate::answer::Part;
+use crate::answer::TYPE;
 use crate::answer::blank;
 use crate::answer::number4;
+use crate::answer::paged;
+use crate::answer::paying;
+use crate::answer::put_ask;
 use crate::answer::put_figures;
+use crate::answer::put_identity;
+use crate::answer::put1;
 use crate::answer::put4;
 use crate::answer::put8;
 use crate::answer::refused;
+use crate::answer::stated;
 use crate::frame::AREA;
 use crate::frame::Frame;
 use crate::frame::after;
+use crate::frame::area;
 use crate::frame::cut;
 use crate::frame::within;
 use crate::record_calls::error_value;
@@ -18,11 +31,10 @@ use parser::parser::Place;
 use parser::parser::Pushed;
 use parser::parser::RecordParser;
 use parser::parser::payload;
-use protocol::bytes::copy_at;
 use record::record::Record;
 use record::record::Value;
-ghost use Prim.Native.Nat.{_≤_};
-ghost use lib.ListN.{length};
+use session::session::Identity;
+use wire::bytes::copy_at;
 
 // Where the stage stands in the memory: its third area.
 const STAGE: usize = 131200;
@@ -33,11 +45,30 @@ pub struct Ran {
     pub answer: Answer,
 }
 
-// push with a part of the memory as its stage.
-fn push_to(p: RecordParser, input: &[u8], memory: &mut [u8], end: usize) -> Pushed
-    requires { ⌜ (131200 ≤ end) × (end ≤ length (now memory)) ⌝ }
-{
-    p.push(input, &mut memory[STAGE..end])
+// Stores a header's 44 bytes.
+fn put44(answer: Answer, at: usize, header: [u8; 44]) -> Answer {
+    let mut page = answer.page;
+    copy_at(&mut page, at, &header);
+    paged(answer, page)
+}
+
+// Stores a parser's 120 bytes.
+pub(crate) fn put_parser(answer: Answer, at: usize, p: RecordParser) -> Answer {
+    let error = p.error;
+    let header = p.header;
+    let mut x = put44(answer, at, header);
+    x = put4(x, after(at, 44), number4(p.header_len));
+    x = put8(x, after(at, 48), p.payload_len as u64);
+    x = put8(x, after(at, 56), error.number as u64);
+    put_figures(x, after(at, 64), error)
+}
+
+// A call that was run: its answer shows the parser.
+fn shown(parser: RecordParser, answer: Answer) -> Ran {
+    Ran {
+        parser,
+        answer: stated(put_parser(answer, 128, parser), 120),
+    }
 }
 
 // A value that may be missing.
@@ -50,17 +81,12 @@ fn ask(v: Value) -> Ask {
 
 // What the record's asks answer of its payload.
 fn asked(record: Record, bytes: &[u8]) -> Answer {
-    let mut answer = blank();
-    let window = ask(record.window(bytes));
-    let credit = ask(record.credit(bytes));
-    let error = error_value(record.error_code(bytes));
-    answer.window = window;
-    answer.credit = credit;
-    answer.error = error;
-    answer
+    let mut answer = put_ask(blank(), 112, 116, ask(record.window(bytes)));
+    answer = put_ask(answer, 113, 120, ask(record.credit(bytes)));
+    put_ask(answer, 114, 124, error_value(record.error_code(bytes)))
 }
 
-// The part that the payload is, and the number of its place.
+// The part that the payload is.
 pub(crate) fn placed(place: Place, stage: usize, count: usize) -> Part {
     match place {
         Place::Piece(at) => Part {
@@ -84,90 +110,66 @@ pub(crate) fn place_number(place: Place) -> u8 {
     }
 }
 
+// The answer with a record's type, instance, epoch and sequence.
+fn with_record(answer: Answer, record: Record) -> Answer {
+    let instance_id = record.instance_id;
+    let epoch = record.epoch;
+    let sequence = record.sequence;
+    let record_type = record.record_type;
+    let x = put1(answer, TYPE, record_type.code());
+    put8(
+        put_identity(x, IDENTITY, Identity { instance_id, epoch }),
+        NEXT,
+        sequence.0,
+    )
+}
+
 // The answer of a push that completed a record.
 fn completed<'a>(r: Pushed, input: &'a [u8], stage: &'a [u8]) -> Answer {
     let record = r.record;
     let place = r.place;
     let mut answer = asked(record, payload(input, stage, place, record.length));
-    let instance_id = record.instance_id;
-    let epoch = record.epoch;
-    let sequence = record.sequence;
-    let record_type = record.record_type;
-    let part = placed(place, STAGE, record.length);
-    answer.event = 8;
-    answer.place = place_number(place);
-    answer.record_type = record_type.code();
-    answer.count = r.consumed as u64;
-    answer.next = sequence.0;
-    answer.instance_id = instance_id;
-    answer.epoch = epoch.0;
-    answer.payload = part;
-    answer
-}
-
-// The answer of a push without a record.
-fn waiting(r: Pushed) -> Answer {
-    let refusal = r.refusal;
-    let mut answer = refused(refusal);
-    answer.count = r.consumed as u64;
-    answer
+    answer = with_record(answer, record);
+    answer = put1(answer, EVENT, 8);
+    answer = put1(answer, PLACE, place_number(place));
+    answer = put8(answer, COUNT, r.consumed as u64);
+    paying(answer, placed(place, STAGE, record.length))
 }
 
 fn push(p: RecordParser, f: Frame, input: &[u8], memory: &mut [u8]) -> Ran {
-    let end = STAGE + within(f.a);
-    if memory.len() < end {
-        return Ran {
-            parser: p,
-            answer: blank(),
-        };
-    }
-    let r = push_to(p, input, memory, end);
-    let parser = r.parser;
+    let r = p.push(input, area(memory, STAGE, within(f.a)));
     if r.complete {
-        return Ran {
-            parser,
-            answer: completed(r, input, cut(memory, STAGE, AREA)),
-        };
+        return shown(r.parser, completed(r, input, cut(memory, STAGE, AREA)));
     }
-    Ran {
-        parser,
-        answer: waiting(r),
-    }
+    shown(r.parser, put8(refused(r.refusal), COUNT, r.consumed as u64))
 }
 
 // buffered and needed.
 fn asks(p: RecordParser) -> Answer {
     let buffered = p.buffered();
     let needed = p.needed();
-    let refusal = buffered.refusal;
-    let mut answer = refused(refusal);
-    answer.count = buffered.count as u64;
-    answer.next = needed.count as u64;
-    answer
+    let answer = put8(refused(buffered.refusal), COUNT, buffered.count as u64);
+    put8(answer, NEXT, needed.count as u64)
 }
 
-pub(crate) fn call(p: RecordParser, f: Frame, input: &[u8], memory: &mut [u8]) -> Ran {
+// Runs a call of the parser; 1 makes the parser fresh. Any other call keeps the parser and the
+// answer.
+pub(crate) fn turn(
+    p: RecordParser,
+    answer: Answer,
+    f: Frame,
+    input: &[u8],
+    memory: &mut [u8],
+) -> Ran {
     let op = f.op;
     match op {
-        30 => push(p, f, input, memory),
-        31 => Ran {
+        1 => Ran {
             parser: RecordParser::new(),
-            answer: blank(),
+            answer,
         },
-        _ => Ran {
-            parser: p,
-            answer: asks(p),
-        },
+        30 => push(p, f, input, memory),
+        31 => shown(RecordParser::new(), blank()),
+        32 => shown(p, asks(p)),
+        _ => Ran { parser: p, answer },
     }
-}
-
-// Stores a parser's 120 bytes.
-pub(crate) fn put_parser(page: &mut [u8], at: usize, p: RecordParser) {
-    let header = p.header;
-    let error = p.error;
-    copy_at(page, at, &header);
-    put4(page, after(at, 44), number4(p.header_len));
-    put8(page, after(at, 48), p.payload_len as u64);
-    put8(page, after(at, 56), error.number as u64);
-    put_figures(page, after(at, 64), error);
 }

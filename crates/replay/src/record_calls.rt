@@ -1,9 +1,17 @@
 // The calls of the record encoder, and what types and error codes answer: operations 40, 47, 48.
 use crate::answer::Answer;
 use crate::answer::Ask;
+use crate::answer::COUNT;
+use crate::answer::EVENT;
+use crate::answer::NEXT;
+use crate::answer::TYPE;
 use crate::answer::blank;
+use crate::answer::put_ask;
+use crate::answer::put1;
+use crate::answer::put8;
 use crate::frame::Frame;
 use crate::frame::OUTPUT;
+use crate::frame::area;
 use crate::frame::low;
 use crate::frame::within;
 use crate::outer_calls::Fields;
@@ -11,24 +19,19 @@ use crate::outer_calls::encoder_fields;
 use crate::outer_calls::wrote;
 use protocol::outer::Written;
 use record::record::encode_record;
-use record::types::ErrorCode;
-use record::types::ErrorLookup;
-use record::types::RecordType;
-use record::types::TypeLookup;
-ghost use Prim.Native.Nat.{_≤_};
-ghost use lib.ListN.{length};
+use types::ErrorCode;
+use types::ErrorLookup;
+use types::RecordType;
+use types::TypeLookup;
 
-// encode_record over a part of the memory.
+// encode_record with the fields of an encoder's input.
 fn encode_to(
     record_type: RecordType,
     x: Fields,
     payload: &[u8],
-    memory: &mut [u8],
-    end: usize,
+    output: &mut [u8],
     at: usize,
-) -> Written
-    requires { ⌜ (196800 ≤ end) × (end ≤ length (now memory)) ⌝ }
-{
+) -> Written {
     let instance_id = x.instance_id;
     let epoch = x.epoch;
     let sequence = x.sequence;
@@ -38,32 +41,22 @@ fn encode_to(
         epoch,
         sequence,
         payload,
-        &mut memory[OUTPUT..end],
+        output,
         at,
     )
 }
 
 fn encode(f: Frame, input: &[u8], memory: &mut [u8]) -> Answer {
-    let end = OUTPUT + within(f.a / 4294967296);
-    let at = f.b as usize;
-    if memory.len() < end {
-        return blank();
-    }
     if input.len() < 33 {
         return blank();
     }
     let TypeLookup::Known(record_type) = RecordType::from_code(input[0]) else {
         return blank();
     };
-    let w = encode_to(
-        record_type,
-        encoder_fields(input),
-        &input[33..],
-        memory,
-        end,
-        at,
-    );
-    wrote(w, at, 0)
+    let at = f.b as usize;
+    let output = area(memory, OUTPUT, within(f.a / 4294967296));
+    let w = encode_to(record_type, encoder_fields(input), &input[33..], output, at);
+    wrote(w.refusal, w.next, at, 0)
 }
 
 fn flag(b: bool) -> u64 {
@@ -72,15 +65,13 @@ fn flag(b: bool) -> u64 {
 
 // What a type's code stands for, whether it is a bootstrap type and allows the length.
 fn type_asks(f: Frame) -> Answer {
-    let mut answer = blank();
     let TypeLookup::Known(record_type) = RecordType::from_code((f.a % 256) as u8) else {
-        return answer;
+        return blank();
     };
-    answer.event = 1;
-    answer.record_type = record_type.code();
-    answer.count = flag(record_type.is_bootstrap());
-    answer.next = flag(record_type.allows_length(f.b as usize));
-    answer
+    let mut answer = put1(blank(), EVENT, 1);
+    answer = put1(answer, TYPE, record_type.code());
+    answer = put8(answer, COUNT, flag(record_type.is_bootstrap()));
+    put8(answer, NEXT, flag(record_type.allows_length(f.b as usize)))
 }
 
 // The code that a lookup found.
@@ -95,10 +86,12 @@ pub(crate) fn error_value(found: ErrorLookup) -> Ask {
 }
 
 fn error_asks(f: Frame) -> Answer {
-    let mut answer = blank();
-    let error = error_value(ErrorCode::from_code(low(f.a)));
-    answer.error = error;
-    answer
+    put_ask(
+        blank(),
+        114,
+        124,
+        error_value(ErrorCode::from_code(low(f.a))),
+    )
 }
 
 pub(crate) fn call(f: Frame, input: &[u8], memory: &mut [u8]) -> Answer {

@@ -7,15 +7,15 @@ use native.Mathlib.Omega.{arith}
 use lib.ListN.{length, take, drop}
 use lib.Dec.{eqb, ltb, leb}
 use borrow.Author.Tests.{lt-ltb, le-ltb, eq-eqb, ne-eqb, eqb-false, not-true, not-false}
-use Rattle.protocol.specs.Bytes.{overlay}
-use Rattle.protocol.specs.Refusals.{pick, refusal, none, first, passes}
+use Rattle.wire.specs.Bytes.{overlay}
+use Rattle.wire.specs.Refusals.{pick, refusal, none, first, passes}
 use Rattle.protocol.specs.Outer.{write, roomRow}
 use Rattle.protocol.specs.Outer as outer
-use Rattle.protocol.specs.declared.Epoch.{Epoch}
-use Rattle.protocol.specs.declared.Sequence.{Sequence}
-use Rattle.protocol.specs.declared.refusal.Refusal.{Refusal}
+use Rattle.wire.specs.declared.Epoch.{Epoch}
+use Rattle.wire.specs.declared.Sequence.{Sequence}
+use Rattle.wire.specs.declared.refusal.Refusal.{Refusal}
 use Rattle.protocol.specs.declared.outer.Written.{Written}
-use Rattle.protocol.proofs.Rows.{picked, row-stops, row-passes, no-rows, rows-stop, rows-pass}
+use Rattle.wire.proofs.Rows.{picked, row-stops, row-passes, no-rows, rows-stop, rows-pass}
 use Rattle.protocol.proofs.Writes.{write-stops, write-done}
 use Rattle.record.specs.Record.{allZero, recordRows, encodeRows, recordBytes, encodeRecord}
 use Rattle.record.specs.declared.record.Record.{Record}

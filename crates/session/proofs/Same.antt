@@ -9,7 +9,7 @@ use lib.ListN.{length, getD, take, length-take}
 use lib.Seq.{take-suc}
 use lib.Dec.{eqb}
 use borrow.Author.Tests.{eq-eqb, ne-eqb, eqb-true}
-use Rattle.protocol.proofs.Rows.{and-left, and-right}
+use Rattle.wire.proofs.Rows.{and-left, and-right}
 use Rattle.session.specs.Checks.{same}
 
 same-append : (xs ys : List ℕ) (x y : ℕ) → length xs ≡ length ys → same (xs ++ (x ∷ [])) (ys ++ (y ∷ [])) ≡ same xs ys && eqb x y

@@ -1,19 +1,19 @@
 // Identities, the shared checks, and the encoders of the next record of a direction.
-use protocol::Epoch;
-use protocol::Sequence;
 use protocol::outer::OUTER_MAX_PAYLOAD;
-use protocol::refusal::Refusal;
 use record::record::Record;
 use record::record::all_zero;
 use record::record::encode_record;
-use record::types::RecordType;
+use types::RecordType;
+use wire::Epoch;
+use wire::Sequence;
+use wire::bytes::least;
+use wire::refusal::Refusal;
 ghost use mathlib.Core.Path.{_≡_};
 ghost use mathlib.Core.List.{[], _∷_};
-ghost use Prim.Native.Nat.{min};
 ghost use lib.ListN.{length};
-ghost use Rattle.protocol.specs.Refusals.{first};
-ghost use Rattle.record.specs.Types.{codeOf};
-ghost use Rattle.session.specs.Checks.{same, noIdentity, identityOk, holds, shown, recordIdentity, nextSequence, sequenceRow, otherInstance, instanceRow, epochRow};
+ghost use Rattle.wire.specs.Refusals.{first};
+ghost use Rattle.types.specs.Types.{codeOf};
+ghost use Rattle.session.specs.Checks.{identityOf, same, noIdentity, identityOk, holds, shown, recordIdentity, nextSequence, sequenceRow, otherInstance, instanceRow, epochRow};
 ghost use Rattle.session.specs.Writes.{outcome, notEncoded, encodeNext, encodeData};
 
 // Identity of one epoch of a session.
@@ -107,6 +107,15 @@ impl OptionalIdentity {
             identity: no_identity(),
         }
     }
+}
+
+// The identity that a record's fields make.
+pub fn identity_in(record: Record) -> Identity
+    ensures { λ r. ⌜ r ≡ identityOf «record» ⌝ }
+{
+    let instance_id = record.instance_id;
+    let epoch = record.epoch;
+    Identity { instance_id, epoch }
 }
 
 // The identity that a record carries.
@@ -259,12 +268,6 @@ pub fn encode_next(
     ensures { λ r. ⌜ outcome r (now (output .exit)) ≡ encodeNext (codeOf «record_type») identity (sequence .0) 0 (now (payload .entry)) (now (output .entry)) at ⌝ }
 {
     encode_counted(record_type, identity, sequence, 0, payload, output, at)
-}
-
-fn least(a: usize, b: usize) -> usize
-    ensures { λ r. ⌜ r ≡ min a b ⌝ }
-{
-    if a < b { a } else { b }
 }
 
 // Encodes a DATA record of at most the first 65,536 bytes, and says how many it took.

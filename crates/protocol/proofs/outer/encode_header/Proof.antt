@@ -1,7 +1,7 @@
--- `protocol::outer::encode_header` meets its contract. The parts that it calls for are the bytes of version, epoch, sequence and length, and `header-list` puts them together. Assumes nothing.
-use Rattle.protocol.proofs.Headers.{header-list}
+-- `protocol::outer::encode_header` meets its contract: the parts of the header are copied one behind the other (`header-copied`). Assumes nothing.
+use Rattle.wire.proofs.Headers.{header-copied}
+use mathlib.Core.Path.{sym}
 use borrow.Author.Needs.{needs}
-use lib.Dec.{lit<}
 use Rattle.protocol.proofs.outer.encode_header.Statement.{statement}
 use Rattle.protocol.proofs.outer.encode_header.Tie as tie
 
@@ -17,135 +17,91 @@ u64-to-le-bytes-requires-2 c κs = search needs
 u32-to-le-bytes-requires : tie.Need-u32-to-le-bytes-requires
 u32-to-le-bytes-requires c κs = search needs
 
-array-read-t17 : tie.Need-array-read-t17
-array-read-t17 c = lit< tt
+slice-aggregate-copy-at : tie.Need-slice-aggregate-copy-at
+slice-aggregate-copy-at c = search needs
 
-array-read-t20 : tie.Need-array-read-t20
-array-read-t20 c = lit< tt
+slice-aggregate-copy-at-2 : tie.Need-slice-aggregate-copy-at-2
+slice-aggregate-copy-at-2 c = search needs
 
-array-read-t23 : tie.Need-array-read-t23
-array-read-t23 c = lit< tt
+copy-at-requires : tie.Need-copy-at-requires
+copy-at-requires c κs = search needs
 
-array-read-t26 : tie.Need-array-read-t26
-array-read-t26 c = lit< tt
+slice-aggregate-copy-at-3 : tie.Need-slice-aggregate-copy-at-3
+slice-aggregate-copy-at-3 c = search needs
 
-array-read-t29 : tie.Need-array-read-t29
-array-read-t29 c = lit< tt
+slice-aggregate-copy-at-4 : tie.Need-slice-aggregate-copy-at-4
+slice-aggregate-copy-at-4 c = search needs
 
-array-read-t32 : tie.Need-array-read-t32
-array-read-t32 c = lit< tt
+copy-at-requires-2 : tie.Need-copy-at-requires-2
+copy-at-requires-2 c κs = search needs
 
-array-read-t35 : tie.Need-array-read-t35
-array-read-t35 c = lit< tt
+slice-aggregate-copy-at-5 : tie.Need-slice-aggregate-copy-at-5
+slice-aggregate-copy-at-5 c = search needs
 
-array-read-t38 : tie.Need-array-read-t38
-array-read-t38 c = lit< tt
+slice-aggregate-copy-at-6 : tie.Need-slice-aggregate-copy-at-6
+slice-aggregate-copy-at-6 c = search needs
 
-array-read-t41 : tie.Need-array-read-t41
-array-read-t41 c = lit< tt
+copy-at-requires-3 : tie.Need-copy-at-requires-3
+copy-at-requires-3 c κs = search needs
 
-array-read-t44 : tie.Need-array-read-t44
-array-read-t44 c = lit< tt
+slice-aggregate-copy-at-7 : tie.Need-slice-aggregate-copy-at-7
+slice-aggregate-copy-at-7 c = search needs
 
-array-read-t47 : tie.Need-array-read-t47
-array-read-t47 c = lit< tt
+slice-aggregate-copy-at-8 : tie.Need-slice-aggregate-copy-at-8
+slice-aggregate-copy-at-8 c = search needs
 
-array-read-t50 : tie.Need-array-read-t50
-array-read-t50 c = lit< tt
+copy-at-requires-4 : tie.Need-copy-at-requires-4
+copy-at-requires-4 c κs = search needs
 
-array-read-t53 : tie.Need-array-read-t53
-array-read-t53 c = lit< tt
+slice-aggregate-copy-at-9 : tie.Need-slice-aggregate-copy-at-9
+slice-aggregate-copy-at-9 c = search needs
 
-array-read-t56 : tie.Need-array-read-t56
-array-read-t56 c = lit< tt
+slice-aggregate-copy-at-10 : tie.Need-slice-aggregate-copy-at-10
+slice-aggregate-copy-at-10 c = search needs
 
-array-read-t59 : tie.Need-array-read-t59
-array-read-t59 c = lit< tt
+copy-at-requires-5 : tie.Need-copy-at-requires-5
+copy-at-requires-5 c κs = search needs
 
-array-read-t62 : tie.Need-array-read-t62
-array-read-t62 c = lit< tt
+slice-aggregate-copy-at-11 : tie.Need-slice-aggregate-copy-at-11
+slice-aggregate-copy-at-11 c = search needs
 
-array-read-t65 : tie.Need-array-read-t65
-array-read-t65 c = lit< tt
+slice-aggregate-copy-at-12 : tie.Need-slice-aggregate-copy-at-12
+slice-aggregate-copy-at-12 c = search needs
 
-array-read-t68 : tie.Need-array-read-t68
-array-read-t68 c = lit< tt
+copy-at-requires-6 : tie.Need-copy-at-requires-6
+copy-at-requires-6 c κs = search needs
 
-array-read-t71 : tie.Need-array-read-t71
-array-read-t71 c = lit< tt
+slice-aggregate-copy-at-13 : tie.Need-slice-aggregate-copy-at-13
+slice-aggregate-copy-at-13 c = search needs
 
-array-read-t74 : tie.Need-array-read-t74
-array-read-t74 c = lit< tt
+slice-aggregate-copy-at-14 : tie.Need-slice-aggregate-copy-at-14
+slice-aggregate-copy-at-14 c = search needs
 
-array-read-t77 : tie.Need-array-read-t77
-array-read-t77 c = lit< tt
-
-array-read-t80 : tie.Need-array-read-t80
-array-read-t80 c = lit< tt
-
-array-read-t83 : tie.Need-array-read-t83
-array-read-t83 c = lit< tt
-
-array-read-t86 : tie.Need-array-read-t86
-array-read-t86 c = lit< tt
-
-array-read-t89 : tie.Need-array-read-t89
-array-read-t89 c = lit< tt
-
-array-read-t92 : tie.Need-array-read-t92
-array-read-t92 c = lit< tt
-
-array-read-t95 : tie.Need-array-read-t95
-array-read-t95 c = lit< tt
-
-array-read-t98 : tie.Need-array-read-t98
-array-read-t98 c = lit< tt
-
-array-read-t101 : tie.Need-array-read-t101
-array-read-t101 c = lit< tt
-
-array-read-t104 : tie.Need-array-read-t104
-array-read-t104 c = lit< tt
-
-array-read-t107 : tie.Need-array-read-t107
-array-read-t107 c = lit< tt
-
-array-read-t110 : tie.Need-array-read-t110
-array-read-t110 c = lit< tt
-
-array-read-t113 : tie.Need-array-read-t113
-array-read-t113 c = lit< tt
-
-array-read-t116 : tie.Need-array-read-t116
-array-read-t116 c = lit< tt
-
-array-read-t119 : tie.Need-array-read-t119
-array-read-t119 c = lit< tt
-
-array-read-t122 : tie.Need-array-read-t122
-array-read-t122 c = lit< tt
-
-array-read-t125 : tie.Need-array-read-t125
-array-read-t125 c = lit< tt
-
-array-read-t128 : tie.Need-array-read-t128
-array-read-t128 c = lit< tt
-
-array-read-t131 : tie.Need-array-read-t131
-array-read-t131 c = lit< tt
-
-array-read-t134 : tie.Need-array-read-t134
-array-read-t134 c = lit< tt
-
-array-read-t137 : tie.Need-array-read-t137
-array-read-t137 c = lit< tt
-
-array-read-t140 : tie.Need-array-read-t140
-array-read-t140 c = lit< tt
+copy-at-requires-7 : tie.Need-copy-at-requires-7
+copy-at-requires-7 c κs = search needs
 
 returns : tie.Need-returns
 returns c =
-    header-list _ _ _ _ _ _ _ _ _ (search needs) (c .before .before .before .u16-to-le-bytes .ensures) (c .before .before .u64-to-le-bytes .ensures) (c .before .u64-to-le-bytes2 .ensures) (c .u32-to-le-bytes .ensures)
+    let k₆ = c .before in
+    let k₅ = k₆ .before .before .before .before in
+    let k₄ = k₅ .before .before .before .before in
+    let k₃ = k₄ .before .before .before .before in
+    let k₂ = k₃ .before .before .before .before in
+    let k₁ = k₂ .before .before .before .before in
+    let k₀ = k₁ .before .before .before .before in
+    let numbers = k₀ .before .before .before in
+    header-copied _ _ _ _ _ _ _ _ _ _ _ _ _ _ _ _ _ (search needs) (sym (slice-aggregate-copy-at-8 (k₃ .before)))
+    (numbers .before .before .before .u16-to-le-bytes .ensures)
+    (numbers .before .before .u64-to-le-bytes .ensures)
+    (numbers .before .u64-to-le-bytes2 .ensures)
+    (numbers .u32-to-le-bytes .ensures)
+    (k₀ .copy-at .ensures)
+    (k₁ .copy-at2 .ensures)
+    (k₂ .copy-at3 .ensures)
+    (k₃ .copy-at4 .ensures)
+    (k₄ .copy-at5 .ensures)
+    (k₅ .copy-at6 .ensures)
+    (k₆ .copy-at7 .ensures)
 
 pub encode-header-spec : {M : Type 1} → statement M
 encode-header-spec =
@@ -155,46 +111,25 @@ encode-header-spec =
     u64-to-le-bytes-requires
     u64-to-le-bytes-requires-2
     u32-to-le-bytes-requires
-    array-read-t17
-    array-read-t20
-    array-read-t23
-    array-read-t26
-    array-read-t29
-    array-read-t32
-    array-read-t35
-    array-read-t38
-    array-read-t41
-    array-read-t44
-    array-read-t47
-    array-read-t50
-    array-read-t53
-    array-read-t56
-    array-read-t59
-    array-read-t62
-    array-read-t65
-    array-read-t68
-    array-read-t71
-    array-read-t74
-    array-read-t77
-    array-read-t80
-    array-read-t83
-    array-read-t86
-    array-read-t89
-    array-read-t92
-    array-read-t95
-    array-read-t98
-    array-read-t101
-    array-read-t104
-    array-read-t107
-    array-read-t110
-    array-read-t113
-    array-read-t116
-    array-read-t119
-    array-read-t122
-    array-read-t125
-    array-read-t128
-    array-read-t131
-    array-read-t134
-    array-read-t137
-    array-read-t140
+    slice-aggregate-copy-at
+    slice-aggregate-copy-at-2
+    copy-at-requires
+    slice-aggregate-copy-at-3
+    slice-aggregate-copy-at-4
+    copy-at-requires-2
+    slice-aggregate-copy-at-5
+    slice-aggregate-copy-at-6
+    copy-at-requires-3
+    slice-aggregate-copy-at-7
+    slice-aggregate-copy-at-8
+    copy-at-requires-4
+    slice-aggregate-copy-at-9
+    slice-aggregate-copy-at-10
+    copy-at-requires-5
+    slice-aggregate-copy-at-11
+    slice-aggregate-copy-at-12
+    copy-at-requires-6
+    slice-aggregate-copy-at-13
+    slice-aggregate-copy-at-14
+    copy-at-requires-7
     returns)

@@ -1,6 +1,6 @@
 -- `record::record::check_payload` meets its contract. Each type has a case. Six have no value to check; `ack-value`, `error-value` and `credit-value` take over what the check of the value ensures. Assumes nothing.
 use Rattle.record.proofs.Cases.{ack-value, credit-value, error-value}
-use Rattle.protocol.specs.Refusals.{first}
+use Rattle.wire.specs.Refusals.{first}
 use Rattle.record.specs.Record.{payloadChecks}
 use borrow.Author.Needs.{needs}
 use Rattle.record.proofs.record.check_payload.Statement.{statement}

@@ -1,5 +1,5 @@
 -- `record::record::encode_record` meets its contract. A refusal of `check_record` is the answer, by `encode-stops`; else `encode-put` takes over what `put_record` ensures with the header made. By `length-fits` the length of a payload that passed fits 32 bits. Assumes nothing.
-use Rattle.record.specs.Types.{codeOf}
+use Rattle.types.specs.Types.{codeOf}
 use native.Mathlib.Omega.{arith}
 use Rattle.record.proofs.Cases.{encode-stops, encode-put, length-fits}
 use borrow.Author.Needs.{needs}

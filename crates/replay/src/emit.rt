@@ -1,0 +1,68 @@
+// Appends answers to the output of a block.
+use crate::answer::Answer;
+use crate::answer::HEAD;
+use crate::answer::Part;
+use crate::answer::finished;
+use crate::frame::AREA;
+use crate::frame::cut;
+use parser::parser::Place;
+use wire::bytes::copy_at;
+
+// A payload, as the operation's layer hands it over.
+fn handed<'a>(op: u8, input: &'a [u8], stage: &'a [u8], place: Place, count: usize) -> &'a [u8] {
+    if op == 11 {
+        return guest::guest::payload(input, stage, place, count);
+    }
+    if op == 21 {
+        return host::host::payload(input, stage, place, count);
+    }
+    parser::parser::payload(input, stage, place, count)
+}
+
+// A part of the input or of the memory.
+fn part_of<'a>(op: u8, p: Part, input: &'a [u8], memory: &'a [u8]) -> &'a [u8] {
+    let stage = cut(memory, p.from, AREA);
+    if p.source == 1 {
+        return handed(op, input, stage, Place::Piece(p.from), p.count);
+    }
+    if p.source == 3 {
+        return handed(op, input, stage, Place::Stage, p.count);
+    }
+    cut(memory, p.from, p.count)
+}
+
+// Appends bytes to the answers and gives the place after them; 0 where they do not fit.
+fn append(out: &mut [u8], at: usize, bytes: &[u8]) -> usize {
+    if out.len() < at {
+        return 0;
+    }
+    if out.len() - at < bytes.len() {
+        return 0;
+    }
+    copy_at(out, at, bytes);
+    at + bytes.len()
+}
+
+// Appends a part of an answer's page.
+fn append_page(out: &mut [u8], at: usize, page: [u8; 320], from: usize, count: usize) -> usize {
+    append(out, at, cut(&page, from, count))
+}
+
+// Appends an answer: head, payload, written bytes, state.
+pub(crate) fn emit<'a>(
+    op: u8,
+    answer: Answer,
+    input: &'a [u8],
+    memory: &'a [u8],
+    out: &mut [u8],
+    o: usize,
+) -> usize {
+    let payload = answer.payload;
+    let written = answer.written;
+    let whole = finished(answer, op);
+    let page = whole.page;
+    let mut at = append_page(out, o, page, 0, HEAD);
+    at = append(out, at, part_of(op, payload, input, memory));
+    at = append(out, at, part_of(op, written, input, memory));
+    append_page(out, at, page, HEAD, answer.state)
+}

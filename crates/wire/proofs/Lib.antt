@@ -1,0 +1,4 @@
+pub mod Numbers
+pub mod Overlays
+pub mod Headers
+pub mod Rows

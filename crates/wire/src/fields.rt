@@ -1,0 +1,92 @@
+// The fields of a header's 44 bytes, each read at its place.
+use crate::Epoch;
+use crate::Sequence;
+use crate::bytes::u16_from_le_bytes;
+use crate::bytes::u32_from_le_bytes;
+use crate::bytes::u64_from_le_bytes;
+ghost use mathlib.Core.Path.{_≡_};
+ghost use Rattle.wire.specs.Header.{magicOf, versionOf, typeOf, flagsOf, instanceOf, epochOf, sequenceOf, lengthOf};
+
+pub fn magic(header: &[u8; 44]) -> u32
+    ensures { λ r. ⌜ r ≡ magicOf (now (header .entry)) ⌝ }
+{
+    u32_from_le_bytes([header[0], header[1], header[2], header[3]])
+}
+
+pub fn version(header: &[u8; 44]) -> u16
+    ensures { λ r. ⌜ r ≡ versionOf (now (header .entry)) ⌝ }
+{
+    u16_from_le_bytes([header[4], header[5]])
+}
+
+pub fn record_type(header: &[u8; 44]) -> u8
+    ensures { λ r. ⌜ r ≡ typeOf (now (header .entry)) ⌝ }
+{
+    header[6]
+}
+
+pub fn flags(header: &[u8; 44]) -> u8
+    ensures { λ r. ⌜ r ≡ flagsOf (now (header .entry)) ⌝ }
+{
+    header[7]
+}
+
+pub fn instance_id(header: &[u8; 44]) -> [u8; 16]
+    ensures { λ r. ⌜ r ≡ instanceOf (now (header .entry)) ⌝ }
+{
+    [
+        header[8],
+        header[9],
+        header[10],
+        header[11],
+        header[12],
+        header[13],
+        header[14],
+        header[15],
+        header[16],
+        header[17],
+        header[18],
+        header[19],
+        header[20],
+        header[21],
+        header[22],
+        header[23],
+    ]
+}
+
+pub fn epoch(header: &[u8; 44]) -> Epoch
+    ensures { λ r. ⌜ r .0 ≡ epochOf (now (header .entry)) ⌝ }
+{
+    Epoch(u64_from_le_bytes([
+        header[24],
+        header[25],
+        header[26],
+        header[27],
+        header[28],
+        header[29],
+        header[30],
+        header[31],
+    ]))
+}
+
+pub fn sequence(header: &[u8; 44]) -> Sequence
+    ensures { λ r. ⌜ r .0 ≡ sequenceOf (now (header .entry)) ⌝ }
+{
+    Sequence(u64_from_le_bytes([
+        header[32],
+        header[33],
+        header[34],
+        header[35],
+        header[36],
+        header[37],
+        header[38],
+        header[39],
+    ]))
+}
+
+// The payload's length as the header says it.
+pub fn length(header: &[u8; 44]) -> u32
+    ensures { λ r. ⌜ r ≡ lengthOf (now (header .entry)) ⌝ }
+{
+    u32_from_le_bytes([header[40], header[41], header[42], header[43]])
+}

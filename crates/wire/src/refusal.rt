@@ -1,0 +1,37 @@
+// What every operation answers where 01 stops it.
+ghost use mathlib.Core.Path.{_≡_};
+ghost use Rattle.wire.specs.Refusals.{refusal, none};
+
+// 01's record of a refusal: its number, three figures and two fields of 16 bytes; what a number
+// does not use is 0. Number 0: no refusal.
+pub struct Refusal {
+    pub number: u8,
+    pub a: u64,
+    pub b: u64,
+    pub c: u64,
+    pub expected: [u8; 16],
+    pub actual: [u8; 16],
+}
+
+impl Refusal {
+    // No refusal.
+    pub fn none() -> Refusal
+        ensures { λ r. ⌜ r ≡ none ⌝ }
+    {
+        Refusal::new(0, 0, 0, 0)
+    }
+
+    // A refusal with its figures.
+    pub fn new(number: u8, a: u64, b: u64, c: u64) -> Refusal
+        ensures { λ r. ⌜ r ≡ refusal number a b c ⌝ }
+    {
+        Refusal {
+            number,
+            a,
+            b,
+            c,
+            expected: [0u8; 16],
+            actual: [0u8; 16],
+        }
+    }
+}
