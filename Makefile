@@ -30,6 +30,7 @@ else ifeq ($(wildcard $(REFERENCE)/.),)
 	@echo 'differential: NOT RUN: there is no $(REFERENCE)'
 else
 	@$(MAKE) differential CALLS=200000 SEED=1
+	@$(MAKE) listing-differential CAPTURES=10000 LISTING_SEED=1
 endif
 
 # Gives the targets differential, slips and replay-list.

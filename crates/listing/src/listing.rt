@@ -113,13 +113,13 @@ fn record_line(
         record.length as u64,
         open,
     );
-    let parser = pushed.parser;
+    let empty = pushed.parser;
     Listed {
         refusal: Refusal::none(),
         taken: pushed.consumed,
         written,
         listing: Listing {
-            parser,
+            parser: empty,
             offset: listing.offset + (44 + record.length as u64),
             open,
         },

@@ -13,7 +13,7 @@ use Rattle.wire.specs.Bytes.{overlay, fromLe, toLe}
 use Rattle.wire.specs.Header.{magicOf, versionOf, typeOf, flagsOf, instanceOf, epochOf, sequenceOf, lengthOf, headerBytes}
 use Rattle.wire.specs.Refusals.{pick, refusal, none, first, passes}
 use Rattle.protocol.specs.Outer.{maxPayload, write, valueOf, windowOk, creditOk}
-use Rattle.types.specs.Types.{typeAt, lengthOk}
+use Rattle.types.specs.Types.{lengthOk, typeAt}
 use Rattle.record.specs.Record.{allZero, headerChecks, payloadChecks}
 use Rattle.decimal.specs.Decimal.{number, decimal, decimalIn}
 use Rattle.protocol.specs.Outer as outer
@@ -151,7 +151,7 @@ ends input = ap (λ (x : List ℕ). names ++ linesFrom 0 0 x) (take-all limit (t
 
 -- 01's listing, computed
 example : listing capture ≡ printed
-unfolding listing capture printed names listFrom line ending openAfter number decimal decimalIn headerChecks payloadChecks first fromLe toLe headerBytes magicOf versionOf typeOf flagsOf instanceOf epochOf sequenceOf lengthOf typeAt lengthOk allZero valueOf windowOk creditOk
+unfolding listing capture printed names listFrom line ending openAfter number decimal decimalIn headerChecks payloadChecks first fromLe toLe headerBytes magicOf versionOf typeOf flagsOf instanceOf epochOf sequenceOf lengthOf lengthOk typeAt allZero valueOf windowOk creditOk
 example = refl
 
 pub claims : ListingClaims
