@@ -3,6 +3,7 @@ use parser::parser::Count;
 use parser::parser::Place;
 use parser::parser::Pushed;
 use parser::parser::RecordParser;
+use protocol::outer::OUTER_HEADER_LEN;
 use protocol::outer::OUTER_MAX_PAYLOAD;
 use protocol::outer::OUTER_MAX_RECEIVE_WINDOW;
 use protocol::outer::Written;
@@ -22,12 +23,13 @@ use session::session::same_instance;
 use types::RecordType;
 use wire::Epoch;
 use wire::Sequence;
+use wire::bytes::copy_at;
 use wire::bytes::u32_to_le_bytes;
 use wire::refusal::Refusal;
 ghost use mathlib.Core.Path.{_≡_};
 ghost use mathlib.Core.Bool.{not, _&&_, _||_};
 ghost use mathlib.Core.List.{[], _∷_};
-ghost use Prim.Native.Nat.{_+_, _-_, _≤_, _<_};
+ghost use Prim.Native.Nat.{_+_, _-_, _^_, _≤_, _<_};
 ghost use lib.Dec.{leb};
 ghost use Rattle.wire.specs.Refusals.{first};
 ghost use Rattle.session.specs.Checks.{holds, lastSequence, nextRow};
@@ -43,7 +45,7 @@ ghost use Rattle.wire.specs.Bytes.{toLe};
 ghost use Rattle.protocol.specs.Outer as outer;
 ghost use Rattle.protocol.specs.Outer.{creditOk};
 ghost use Rattle.record.specs.Record.{encodeRecord};
-ghost use Rattle.parser.specs.Push.{payloadAt};
+ghost use Rattle.parser.specs.Push.{payloadAt, waiting};
 ghost use Rattle.session.specs.Writes.{identityBytes};
 
 // State of the guest's session.
@@ -444,6 +446,39 @@ fn after_push(session: GuestSession, pushed: Pushed) -> Received
     }
 }
 
+// The session with another parser.
+fn with_parser(mut session: GuestSession, parser: RecordParser) -> GuestSession
+    ensures { λ r. ⌜ r ≡ withState session (session .state) parser ⌝ }
+{
+    session.parser = parser;
+    session
+}
+
+// A receive of so many payload bytes that leaves the payload unfinished: the commonest case, apart
+// from the others so that it moves little.
+fn keep_waiting(session: GuestSession, count: usize) -> Received
+    requires { ⌜ session .parser .«payload_len» + count < 2 ^ 32 ⌝ }
+    ensures { λ r. ⌜ r ≡ afterPush session (told (waiting (session .parser .header) 44 (session .parser .«payload_len» + count) count)) .answer ⌝ }
+{
+    let before = session.parser;
+    let header = before.header;
+    let parser = RecordParser {
+        header,
+        header_len: OUTER_HEADER_LEN,
+        payload_len: before.payload_len + count,
+        error: Refusal::none(),
+    };
+    Received {
+        refusal: Refusal::none(),
+        consumed: count,
+        event: GuestEvent::Nothing,
+        identity: no_identity(),
+        place: Place::Piece(0),
+        length: 0,
+        session: with_parser(session, parser),
+    }
+}
+
 // Nothing is sent.
 fn not_sent(session: GuestSession, refusal: Refusal) -> Sent
     ensures { λ r. ⌜ r ≡ notSent refusal session ⌝ }
@@ -520,22 +555,16 @@ fn acknowledged(session: GuestSession, window: u32) -> GuestSession
 }
 
 // The session after a record was sent: the next send sequence, and what is outstanding then.
-fn sent_session(session: GuestSession, send_sequence: Sequence, outstanding: u32) -> GuestSession
+fn sent_session(
+    mut session: GuestSession,
+    send_sequence: Sequence,
+    outstanding: u32,
+) -> GuestSession
     ensures { λ r. ⌜ r ≡ withSent session («send_sequence» .0) outstanding ⌝ }
 {
-    let state = session.state;
-    let parser = session.parser;
-    let identity = session.identity;
-    let receive_sequence = session.receive_sequence;
-    GuestSession {
-        state,
-        parser,
-        identity,
-        receive_sequence,
-        send_sequence,
-        window: session.window,
-        outstanding,
-    }
+    session.send_sequence = send_sequence;
+    session.outstanding = outstanding;
+    session
 }
 
 // Whether a credit is at least 1 and at most what is outstanding.
@@ -628,6 +657,10 @@ impl GuestSession {
             return refuse(self, Refusal::new(20, 0, 0, 0));
         }
         let parser = self.parser;
+        if parser.stays_open(piece.len()) {
+            copy_at(stage, parser.payload_len, piece);
+            return keep_waiting(self, piece.len());
+        }
         let pushed = parser.push(piece, stage);
         after_push(self, pushed)
     }

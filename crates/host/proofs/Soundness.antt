@@ -90,3 +90,6 @@ pub ruleset sounding = (sound-parser, sound-identity)
 pub sound-inside : (h : HostSession) → soundHost h ≡ true → soundParser (h .parser) ≡ true
 unfolding soundHost
 sound-inside h e = and-left (soundParser (h .parser)) (not (isAttached (h .state)) || holds (h .identity)) e
+
+pub sound-within : (g : HostSession) (b : Bool) → b ≡ soundHost g → not b ≡ false → soundParser (g .parser) ≡ true
+sound-within g b eb n = sound-inside g (sym eb ∙ not-false b n)

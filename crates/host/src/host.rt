@@ -3,6 +3,7 @@ use parser::parser::Count;
 use parser::parser::Place;
 use parser::parser::Pushed;
 use parser::parser::RecordParser;
+use protocol::outer::OUTER_HEADER_LEN;
 use protocol::outer::OUTER_MAX_PAYLOAD;
 use protocol::outer::Written;
 use record::record::Record;
@@ -20,11 +21,12 @@ use session::session::no_identity;
 use types::RecordType;
 use wire::Epoch;
 use wire::Sequence;
+use wire::bytes::copy_at;
 use wire::refusal::Refusal;
 ghost use mathlib.Core.Path.{_≡_};
 ghost use mathlib.Core.Bool.{not, _&&_, _||_};
 ghost use mathlib.Core.List.{[], _∷_};
-ghost use Prim.Native.Nat.{_<_};
+ghost use Prim.Native.Nat.{_<_, _+_, _^_};
 ghost use lib.Dec.{eqb, leb};
 ghost use lib.ListN.{replicate};
 ghost use Rattle.wire.specs.Refusals.{first};
@@ -32,7 +34,7 @@ ghost use Rattle.protocol.specs.Outer as outer;
 ghost use Rattle.types.specs.Types.{codeOf};
 ghost use Rattle.record.specs.Record.{encodeRecord};
 ghost use Rattle.types.specs.declared.RecordType.the-variants as Kind;
-ghost use Rattle.parser.specs.Push.{payloadAt};
+ghost use Rattle.parser.specs.Push.{payloadAt, waiting};
 ghost use Rattle.session.specs.Checks.{holds, lastSequence, identityRow, instanceRow};
 ghost use Rattle.session.specs.Checks as checks;
 ghost use Rattle.host.specs.State.{code, freshHost, soundHost, withState, nextHost, withSent};
@@ -496,6 +498,39 @@ fn after_push(session: HostSession, pushed: Pushed) -> Received
     }
 }
 
+// The session with another parser.
+fn with_parser(mut session: HostSession, parser: RecordParser) -> HostSession
+    ensures { λ r. ⌜ r ≡ withState session (session .state) parser ⌝ }
+{
+    session.parser = parser;
+    session
+}
+
+// A receive of so many payload bytes that leaves the payload unfinished: the commonest case, apart
+// from the others so that it moves little.
+fn keep_waiting(session: HostSession, count: usize) -> Received
+    requires { ⌜ session .parser .«payload_len» + count < 2 ^ 32 ⌝ }
+    ensures { λ r. ⌜ r ≡ afterPush session (told (waiting (session .parser .header) 44 (session .parser .«payload_len» + count) count)) .answer ⌝ }
+{
+    let before = session.parser;
+    let header = before.header;
+    let parser = RecordParser {
+        header,
+        header_len: OUTER_HEADER_LEN,
+        payload_len: before.payload_len + count,
+        error: Refusal::none(),
+    };
+    Received {
+        refusal: Refusal::none(),
+        consumed: count,
+        event: HostEvent::Nothing,
+        identity: no_identity(),
+        place: Place::Piece(0),
+        length: 0,
+        session: with_parser(session, parser),
+    }
+}
+
 // Nothing is sent.
 fn not_sent(session: HostSession, refusal: Refusal) -> Sent
     ensures { λ r. ⌜ r ≡ notSent refusal session ⌝ }
@@ -536,20 +571,11 @@ fn write_attach(capability: [u8; 32], output: &mut [u8], at: usize) -> Written
 }
 
 // The session after a record was sent: the next send sequence.
-fn sent_session(session: HostSession, send_sequence: Sequence) -> HostSession
+fn sent_session(mut session: HostSession, send_sequence: Sequence) -> HostSession
     ensures { λ r. ⌜ r ≡ withSent session («send_sequence» .0) ⌝ }
 {
-    let state = session.state;
-    let parser = session.parser;
-    let identity = session.identity;
-    let receive_sequence = session.receive_sequence;
-    HostSession {
-        state,
-        parser,
-        identity,
-        receive_sequence,
-        send_sequence,
-    }
+    session.send_sequence = send_sequence;
+    session
 }
 
 // The answer of `state`.
@@ -635,6 +661,10 @@ impl HostSession {
             return refuse(self, Refusal::new(20, 0, 0, 0));
         }
         let parser = self.parser;
+        if parser.stays_open(piece.len()) {
+            copy_at(stage, parser.payload_len, piece);
+            return keep_waiting(self, piece.len());
+        }
         let pushed = parser.push(piece, stage);
         after_push(self, pushed)
     }

@@ -4,7 +4,9 @@ use mathlib.Core.Path.{_≡_, refl, sym, ap, ap₂, _∙_}
 use mathlib.Core.Bool.{Bool, true, false, not, _&&_, _||_, and-false}
 use mathlib.Core.List.{List, [], _∷_, _++_, append-nil}
 use native.Mathlib.Omega.{arith}
-use native.Mathlib.Decide.{ℕ-discrete}
+use native.Mathlib.Decide.{ℕ-discrete, decLt}
+use native.Mathlib.Nat.{zero-add}
+use lib.Seq.{take-all}
 use lib.ListN.{length, take, drop, length-take, length-drop}
 use lib.Dec.{eqb, leb, ltb}
 use borrow.Author.Tests.{lt-ltb, le-ltb, le-leb, lt-leb, eq-eqb, ne-eqb, eqb-true, leb-true, ltb-true, not-true, not-false}
@@ -32,14 +34,14 @@ use Rattle.parser.proofs.Parts.{part-end, overlay-nothing, take-none}
 
 -- ---- soundness
 module _ (h : List ℕ) (n k : ℕ) where
-  module _ (x : Refusal) (full : n ≡ 44) (ex : x ≡ headerChecks h) where
-    pub counts-refused : (x .number ≡ 0 → ⊥) → false ≡ countsOk h n k
+  module _ (b : Bool) (full : n ≡ 44) (eb : b ≡ passes (headerChecks h)) where
+    pub counts-refused : not b ≡ true → false ≡ countsOk h n k
     unfolding countsOk
-    counts-refused p = simp (eq-eqb n 44 full, ← ex, ne-eqb (x .number) 0 p)
+    counts-refused p = simp (eq-eqb n 44 full, ← eb, not-true b p)
 
-    pub counts-held : (m : ℕ) → x .number ≡ 0 → m ≡ lengthOf h → ltb k m ≡ countsOk h n k
+    pub counts-held : (m : ℕ) → not b ≡ false → m ≡ lengthOf h → ltb k m ≡ countsOk h n k
     unfolding countsOk
-    counts-held m p em = simp (eq-eqb n 44 full, ← ex, eq-eqb (x .number) 0 p) (ap (ltb k) em)
+    counts-held m p em = simp (eq-eqb n 44 full, ← eb, not-false b p) (ap (ltb k) em)
 
   module _ (other : n ≡ 44 → ⊥) where
     pub counts-filling : n < 44 → eqb k 0 ≡ countsOk h n k
@@ -188,6 +190,37 @@ module _ (h : List ℕ) (size k : ℕ) (rest : List ℕ) (from : ℕ) (stage : L
         simp (le-ltb (k + bodyTaken h k rest) (lengthOf h) a, ne-eqb k 0 z)
         (λ j. outcome ((eu ∙ (λ i. finish h (e i) (from + taken i) Stage .answer)) j) (s j))
 
+    -- both, by whether the first byte came with the last
+    pub body-ends : (st bytes : List ℕ) (place : Place) → 65536 ≤ length stage → passes (headerChecks h) ≡ true → st ≡ pick (eqb k 0) stage (copied stage k part)
+        → place ≡ pick (eqb k 0) (Piece from) Stage → bytes ≡ pick (eqb k 0) (take size (drop 0 rest)) (take size (drop 0 st)) → u ≡ finish h bytes (from + n) place .answer
+        → outcome u st ≡ outcome (pushBody h k (take k stage) rest from .answer) (bodyStage h k rest stage)
+    body-ends st bytes place room ok es ep el eu = go (ℕ-discrete k 0)
+      where
+        go : Dec (k ≡ 0) → outcome u st ≡ outcome (pushBody h k (take k stage) rest from .answer) (bodyStage h k rest stage)
+        go (yes z) =
+            let t : eqb k 0 ≡ true = eq-eqb k 0 z in
+            let w : size ≡ n - 0 = omega (arith, taken) in
+            let x : bytes ≡ part = el ∙ ap (λ (b : Bool). pick b (take size (drop 0 rest)) (take size (drop 0 st))) t ∙ ap (λ (j : ℕ). take j (drop 0 rest)) w in
+            let y : place ≡ Piece from = ep ∙ ap (λ (b : Bool). pick b (Piece from) Stage) t in
+            let q : st ≡ stage = es ∙ ap (λ (b : Bool). pick b stage (copied stage k part)) t in
+            ap (outcome u) q ∙ body-piece z (eu ∙ (λ j. finish h (x j) (from + n) (y j) .answer))
+        go (no z) =
+            let t : eqb k 0 ≡ false = ne-eqb k 0 z in
+            let w : size ≡ size - 0 = omega arith in
+            let x : bytes ≡ take (size - 0) (drop 0 st) = el ∙ ap (λ (b : Bool). pick b (take size (drop 0 rest)) (take size (drop 0 st))) t ∙ ap (λ (j : ℕ). take j (drop 0 st)) w in
+            let y : place ≡ Stage = ep ∙ ap (λ (b : Bool). pick b (Piece from) Stage) t in
+            let q : st ≡ copied stage k part = es ∙ ap (λ (b : Bool). pick b stage (copied stage k part)) t in
+            body-stage st room ok z q (eu ∙ (λ j. finish h (x j) (from + n) (y j) .answer))
+
+-- a choice by whether a count is 0
+pub choose-first : {A : Type 0} (k : ℕ) (x y z : A) → k ≡ 0 → z ≡ x → z ≡ pick (eqb k 0) x y
+choose-first k x y z e q = simp (eq-eqb k 0 e) q
+
+pub choose-second : {A : Type 0} (k : ℕ) (x y z : A) → (k ≡ 0 → ⊥) → z ≡ y → z ≡ pick (eqb k 0) x y
+choose-second k x y z e q = simp (ne-eqb k 0 e) q
+
+pub ruleset choosing = (choose-first, choose-second)
+
 -- what the parts that the code takes ask
 pub end-fits : (h : List ℕ) (size : ℕ) (st stage : List ℕ) → passes (headerChecks h) ≡ true → size ≡ lengthOf h → 65536 ≤ length stage → length st ≡ length stage → size ≤ length st
 end-fits h size st stage ok e room q = let low = length-low h ok in omega arith
@@ -205,41 +238,46 @@ pub ruleset paying = (payload-piece, payload-stage)
 pub fill-is : (h r : List ℕ) (at : ℕ) (s : List ℕ) → length h ≡ 44 → at + length s ≤ 44 → r ≡ copied h at s → r ≡ overlay h at s
 fill-is h r at s size fits e = e ∙ copied-fits h at s (omega arith)
 
-pub header-passes : (h : List ℕ) (x : Refusal) → x ≡ headerChecks h → x .number ≡ 0 → passes (headerChecks h) ≡ true
-header-passes h x ex n = ap passes (sym ex) ∙ eq-eqb (x .number) 0 n
+pub header-passes : (h : List ℕ) (b : Bool) → b ≡ passes (headerChecks h) → not b ≡ false → passes (headerChecks h) ≡ true
+header-passes h b eb n = sym eb ∙ not-false b n
 
-module _ (h rest : List ℕ) (from : ℕ) (stage : List ℕ) (x : Refusal) (u : Pushed) (ex : x ≡ headerChecks h) where
-  pub checked-fails : (x .number ≡ 0 → ⊥) → u ≡ failed h x → outcome u stage ≡ checkedOf h rest from stage
-  unfolding checkedOf
-  checked-fails n e = simp (checkedOf, ← ex, ne-eqb (x .number) 0 n) (ap (λ (w : Pushed). outcome w stage) e)
+-- what follows byte 44 where k payload bytes have come
+abbrev after44 : List ℕ → ℕ → List ℕ → ℕ → List ℕ → Outcome
+after44 h k rest from stage =
+    pick (passes (headerChecks h))
+    (outcome (pushBody h k (take k stage) rest from .answer) (bodyStage h k rest stage))
+    (outcome (failed h (headerChecks h)) stage)
 
-  pub checked-passes : (st : List ℕ) → x .number ≡ 0 → outcome u st ≡ outcome (pushBody h 0 (take 0 stage) rest from .answer) (bodyStage h 0 rest stage) → outcome u st ≡ checkedOf h rest from stage
-  unfolding checkedOf
-  checked-passes st n e = simp (checkedOf, ← ex, eq-eqb (x .number) 0 n) e
+module _ (h : List ℕ) (k : ℕ) (rest : List ℕ) (from : ℕ) (stage : List ℕ) (b : Bool) (u : Pushed) (eb : b ≡ passes (headerChecks h)) where
+  pub checked-fails : (x : Refusal) → not b ≡ true → x ≡ headerChecks h → u ≡ failed h x → outcome u stage ≡ after44 h k rest from stage
+  checked-fails x n ex e = simp (← eb, not-true b n) (ap (λ (w : Pushed). outcome w stage) (e ∙ ap (failed h) ex))
+
+  pub checked-passes : (st : List ℕ) → not b ≡ false → outcome u st ≡ outcome (pushBody h k (take k stage) rest from .answer) (bodyStage h k rest stage) → outcome u st ≡ after44 h k rest from stage
+  checked-passes st n e = simp (← eb, not-false b n) e
 
 pub ruleset checking = (checked-fails, checked-passes)
 
-module _ (head piece stage : List ℕ) (had n : ℕ) (b : List ℕ) (u : Pushed) (en : n ≡ min (44 - had) (length piece)) (eb : b ≡ overlay head had (take (n - 0) (drop 0 piece))) where
+module _ (head piece stage : List ℕ) (had k n : ℕ) (b : List ℕ) (u : Pushed) (en : n ≡ min (44 - had) (length piece)) (eb : b ≡ overlay head had (take (n - 0) (drop 0 piece))) where
   bytes-are : b ≡ headWith head had piece
   unfolding headWith
   bytes-are = let z : n - 0 ≡ n = omega arith in eb ∙ ap (λ (j : ℕ). overlay head had (take j piece)) (z ∙ en)
 
-  pub head-waits : had + n < 44 → u ≡ waiting b (had + n) 0 n → outcome u stage ≡ outcome (pushHead head had 0 [] piece .answer) (headStage head had 0 piece stage)
+  pub head-waits : had + n < 44 → u ≡ waiting b (had + n) 0 n → outcome u stage ≡ outcome (pushHead head had k (take k stage) piece .answer) (headStage head had k piece stage)
   unfolding pushHead headStage
   head-waits l eu =
-      let k : had + headTaken had piece < 44 = omega arith in
-      simp (lt-ltb (had + headTaken had piece) 44 k)
+      let w : had + headTaken had piece < 44 = omega arith in
+      simp (lt-ltb (had + headTaken had piece) 44 w)
       (ap (λ (w : Pushed). outcome w stage) (eu ∙ (λ j. waiting (bytes-are j) (had + en j) 0 (en j))))
 
-  pub head-checked : (st : List ℕ) → 44 ≤ had + n → outcome u st ≡ checkedOf b (take (length piece - n) (drop n piece)) n stage
-      → outcome u st ≡ outcome (pushHead head had 0 [] piece .answer) (headStage head had 0 piece stage)
-  unfolding pushHead headStage checkedOf
+  pub head-checked : (st : List ℕ) → 44 ≤ had + n → outcome u st ≡ after44 b k (take (length piece - n) (drop n piece)) n stage
+      → outcome u st ≡ outcome (pushHead head had k (take k stage) piece .answer) (headStage head had k piece stage)
+  unfolding pushHead headStage
   head-checked st l q =
-      let k : 44 ≤ had + headTaken had piece = omega arith in
-      simp (le-ltb (had + headTaken had piece) 44 k)
+      let w : 44 ≤ had + headTaken had piece = omega arith in
+      simp (le-ltb (had + headTaken had piece) 44 w)
       (q
-      ∙ (λ j. checkedOf (bytes-are j) (part-end n piece j) n stage)
-      ∙ (λ j. checkedOf (headWith head had piece) (drop (en j) piece) (en j) stage)
+      ∙ (λ j. after44 (bytes-are j) k (part-end n piece j) n stage)
+      ∙ (λ j. after44 (headWith head had piece) k (drop (en j) piece) (en j) stage)
       ∙ split (passes (headerChecks (headWith head had piece))))
     where
       h : List ℕ
@@ -249,12 +287,20 @@ module _ (head piece stage : List ℕ) (had n : ℕ) (b : List ℕ) (u : Pushed)
       t = headTaken had piece
 
       split : (c : Bool)
-          → pick c (outcome (pushBody h 0 [] (drop t piece) t .answer) (bodyStage h 0 (drop t piece) stage)) (outcome (failed h (headerChecks h)) stage)
-          ≡ outcome (pick c (pushBody h 0 [] (drop t piece) t) (record { answer = failed h (headerChecks h); held = []; payload = [] }) .answer) (pick c (bodyStage h 0 (drop t piece) stage) stage)
+          → pick c (outcome (pushBody h k (take k stage) (drop t piece) t .answer) (bodyStage h k (drop t piece) stage)) (outcome (failed h (headerChecks h)) stage)
+          ≡ outcome (pick c (pushBody h k (take k stage) (drop t piece) t) (record { answer = failed h (headerChecks h); held = []; payload = [] }) .answer) (pick c (bodyStage h k (drop t piece) stage) stage)
       split true = refl
       split false = refl
 
 pub ruleset heading = (head-waits, head-checked)
+
+pub head-room : (head piece : List ℕ) (had k n : ℕ) (b : List ℕ) → n ≡ min (44 - had) (length piece) → b ≡ overlay head had (take (n - 0) (drop 0 piece))
+    → k ≤ lengthOf (headWith head had piece) → k ≤ lengthOf b
+unfolding headWith
+head-room head piece had k n b en eb l =
+    let z : n - 0 ≡ n = omega arith in
+    let e : b ≡ overlay head had (take (headTaken had piece) piece) = eb ∙ ap (λ (j : ℕ). overlay head had (take j piece)) (z ∙ en) in
+    rw e l
 
 -- ---- what soundness tells
 -- the counts of a sound parser: a held header with payload bytes to come, or header bytes alone
@@ -304,7 +350,7 @@ module _ (p : RecordParser) (b : Bool) (eb : b ≡ soundParser p) (n : not b ≡
       go (yes e) = omega (arith, sound-fits e, length-low (p .header) (sound-passes e))
       go (no e) = omega (arith, sound-filling e, sound-empty e)
 
-pub ruleset soundly = (sound-passes, sound-fits, sound-filling, sound-payload, sound-low)
+pub ruleset soundly = (sound-payload, sound-low)
 
 -- ---- while a header is held a push takes no header byte and leaves it
 module _ (h : List ℕ) (n k : ℕ) (piece : List ℕ) (full : n ≡ 44) where
@@ -369,25 +415,89 @@ module _ (p : RecordParser) (piece stage : List ℕ) (u : Pushed) where
           free : passes (first (pushRows p (length stage))) ≡ true
           free = pass-all (pushRows p (length stage)) (ok, (long, (eq-eqb (p .error .number) 0 clear, tt)))
 
-          pub push-held : p .«header_len» ≡ 44
-              → outcome u st ≡ outcome (pushBody (p .header) (p .«payload_len») (take (p .«payload_len») stage) piece 0 .answer) (bodyStage (p .header) (p .«payload_len») piece stage)
-              → outcome u st ≡ pushOf p piece stage
-          push-held full e =
-              let o : passes (headerChecks (p .header)) ≡ true = sound-passes p b eb n full in
-              let a = held-push (p .header) (p .«header_len») (p .«payload_len») piece full o (heldIn p stage) in
-              let c = held-stage (p .header) (p .«header_len») (p .«payload_len») piece full o stage in
-              goes st free (e ∙ (λ j. outcome (sym a j .answer) (sym c j)))
+-- the push of a sound parser
+pub sound-told : (p : RecordParser) (b : Bool) → b ≡ soundParser p → not b ≡ false → soundParser p ≡ true
+sound-told p b eb n = sym eb ∙ not-false b n
 
-          pub push-fills : (p .«header_len» ≡ 44 → ⊥)
-              → outcome u st ≡ outcome (pushHead (p .header) (p .«header_len») 0 [] piece .answer) (headStage (p .header) (p .«header_len») 0 piece stage)
-              → outcome u st ≡ pushOf p piece stage
-          push-fills short e =
-              let z : p .«payload_len» ≡ 0 = sound-empty p b eb n short in
-              goes st free
-              (e
-              ∙ (λ j. outcome (pushHead (p .header) (p .«header_len») (sym z j) (sym (take-none (p .«payload_len») stage z) j) piece .answer) (headStage (p .header) (p .«header_len») (sym z j) piece stage)))
+module _ (p : RecordParser) (ok : soundParser p ≡ true) where
+  pub sound-count : p .«header_len» ≤ 44
+  sound-count = go (ℕ-discrete (p .«header_len») 44)
+    where
+      go : Dec (p .«header_len» ≡ 44) → p .«header_len» ≤ 44
+      go (yes e) = omega arith
+      go (no e) = sound-low p true (sym ok) refl e
 
-pub ruleset pushing = (push-23, push-21, push-latched, push-held, push-fills)
+  pub sound-room : (piece : List ℕ) → p .«payload_len» ≤ lengthOf (headWith (p .header) (p .«header_len») piece)
+  sound-room piece = go (ℕ-discrete (p .«header_len») 44)
+    where
+      go : Dec (p .«header_len» ≡ 44) → p .«payload_len» ≤ lengthOf (headWith (p .header) (p .«header_len») piece)
+      go (yes e) = rw (same-header (p .header) (p .«header_len») (p .«payload_len») piece e) (sound-fits p true (sym ok) refl e)
+      go (no e) = omega (arith, sound-empty p true (sym ok) refl e)
+
+module _ (p : RecordParser) (piece stage : List ℕ) (u : Pushed) (ok : soundParser p ≡ true) (l : 65536 ≤ length stage) where
+  pub sound-latched : (p .error .number ≡ 0 → ⊥) → u ≡ stopped p (p .error) → outcome u stage ≡ pushOf p piece stage
+  sound-latched m eu = push-latched p piece stage u true (sym ok) refl l m eu
+
+  pub sound-goes : (st : List ℕ) → p .error .number ≡ 0
+      → outcome u st ≡ outcome (pushHead (p .header) (p .«header_len») (p .«payload_len») (take (p .«payload_len») stage) piece .answer) (headStage (p .header) (p .«header_len») (p .«payload_len») piece stage)
+      → outcome u st ≡ pushOf p piece stage
+  sound-goes st clear e = goes p piece stage u st (free p piece stage u true (sym ok) refl l st clear) e
+
+pub ruleset going = (sound-latched, sound-goes)
+
+-- ---- a piece that leaves the payload in progress unfinished
+module _ (p : RecordParser) (n : ℕ) where
+  abbrev stays : Bool
+  stays = eqb (p .«header_len») 44 && ltb (p .«payload_len» + n) (lengthOf (p .header))
+
+  pub open-filling : (p .«header_len» ≡ 44 → ⊥) → false ≡ stays
+  open-filling e = simp (ne-eqb (p .«header_len») 44 e)
+
+  module _ (size : ℕ) (full : p .«header_len» ≡ 44) (es : size ≡ lengthOf (p .header)) where
+    pub open-past : size < p .«payload_len» → false ≡ stays
+    open-past l = simp (eq-eqb (p .«header_len») 44 full, le-ltb (p .«payload_len» + n) (lengthOf (p .header)) (omega arith))
+
+    pub open-room : p .«payload_len» ≤ size → ltb n (size - p .«payload_len») ≡ stays
+    open-room l = simp (eq-eqb (p .«header_len») 44 full) (go (decLt n (size - p .«payload_len»)))
+      where
+        go : Dec (n < size - p .«payload_len») → ltb n (size - p .«payload_len») ≡ ltb (p .«payload_len» + n) (lengthOf (p .header))
+        go (yes h) = lt-ltb n (size - p .«payload_len») h ∙ sym (lt-ltb (p .«payload_len» + n) (lengthOf (p .header)) (omega arith))
+        go (no h) = le-ltb n (size - p .«payload_len») (omega arith) ∙ sym (le-ltb (p .«payload_len» + n) (lengthOf (p .header)) (omega arith))
+
+pub ruleset opening = (open-filling, open-past, open-room)
+
+-- no error is latched while a header is held
+pub sound-clear : (p : RecordParser) → soundParser p ≡ true → p .«header_len» ≡ 44 → p .error .number ≡ 0
+unfolding soundParser errorOk
+sound-clear p ok full = go (ℕ-discrete (p .error .number) 0)
+  where
+    e : errorOk (p .error .number) (p .«header_len») ≡ true
+    e = and-right (countsOk (p .header) (p .«header_len») (p .«payload_len»)) (errorOk (p .error .number) (p .«header_len»)) ok
+
+    go : Dec (p .error .number ≡ 0) → p .error .number ≡ 0
+    go (yes z) = z
+    go (no z) =
+        let t : leb (p .error .number) 9 && eqb (p .«header_len») 0 ≡ true = simp (errorOk, ne-eqb (p .error .number) 0 z) at e in
+        let w : p .«header_len» ≡ 0 = eqb-true (p .«header_len») 0 (and-right (leb (p .error .number) 9) (eqb (p .«header_len») 0) t) in
+        omega arith
+
+pub open-taken : (p : RecordParser) (piece stage st : List ℕ) → soundParser p ≡ true → 65536 ≤ length stage → stays p (length piece) ≡ true → st ≡ copied stage (p .«payload_len») piece
+    → outcome (waiting (p .header) 44 (p .«payload_len» + length piece) (length piece)) st ≡ pushOf p piece stage
+open-taken p piece stage st ok room o es =
+    let h : List ℕ = p .header in
+    let k : ℕ = p .«payload_len» in
+    let n : ℕ = length piece in
+    let u : Pushed = waiting h 44 (k + n) n in
+    let full : p .«header_len» ≡ 44 = eqb-true (p .«header_len») 44 (and-left (eqb (p .«header_len») 44) (ltb (k + n) (lengthOf h)) o) in
+    let low : k + n < lengthOf h = ltb-true (k + n) (lengthOf h) (and-right (eqb (p .«header_len») 44) (ltb (k + n) (lengthOf h)) o) in
+    let good : passes (headerChecks h) ≡ true = sound-passes p true (sym ok) refl full in
+    let all : take (n - 0) (drop 0 piece) ≡ piece = take-all (n - 0) piece (omega arith) in
+    let w = body-waits h (lengthOf h) k piece 0 stage n u refl (omega arith) st room good low (es ∙ ap (copied stage k) (sym all)) (ap (waiting h 44 (k + n)) (sym (zero-add n))) in
+    let a = held-push h (p .«header_len») k piece full good (heldIn p stage) in
+    let c = held-stage h (p .«header_len») k piece full good stage in
+    goes p piece stage u st (free p piece stage u true (sym ok) refl room st (sound-clear p ok full)) (w ∙ (λ j. outcome (sym a j .answer) (sym c j)))
+
+pub ruleset pushing = (push-23, push-21)
 
 -- ---- asks
 module _ (p : RecordParser) (b : Bool) (eb : b ≡ soundParser p) where

@@ -5,6 +5,7 @@ use protocol::outer::OUTER_MAX_PAYLOAD;
 use record::record::Record;
 use record::record::check_header;
 use record::record::check_payload;
+use record::record::header_ok;
 use record::record::no_record;
 use record::record::record_of;
 use wire::bytes::copy_at;
@@ -12,15 +13,15 @@ use wire::bytes::least;
 use wire::fields;
 use wire::refusal::Refusal;
 ghost use mathlib.Core.Path.{_≡_};
-ghost use mathlib.Core.Bool.{Bool, true};
-ghost use mathlib.Core.List.{[]};
+ghost use mathlib.Core.Bool.{Bool, true, _&&_};
+ghost use lib.Dec.{eqb, ltb};
 ghost use Prim.Native.Nat.{_+_, _^_, _≤_, _<_};
 ghost use lib.ListN.{length, take, drop};
-ghost use Rattle.wire.specs.Bytes.{overlay};
-ghost use Rattle.wire.specs.Refusals.{passes};
+ghost use Rattle.wire.specs.Bytes.{overlay, copied};
+ghost use Rattle.wire.specs.Refusals.{pick, passes};
 ghost use Rattle.wire.specs.Header.{lengthOf};
 ghost use Rattle.record.specs.Record.{headerChecks, recordOf};
-ghost use Rattle.parser.specs.Push.{fresh, countsOk, errorOk, soundParser, stopped, waiting, failed, completed, finish, pushBody, bodyStage, checkedOf, pushHead, headStage, pushOf, outcome, payloadAt, neededOf, bufferedOf, counted};
+ghost use Rattle.parser.specs.Push.{fresh, countsOk, errorOk, soundParser, stopped, waiting, failed, completed, finish, pushBody, bodyStage, headWith, pushHead, headStage, pushOf, outcome, payloadAt, neededOf, bufferedOf, counted};
 
 // The record in progress: its header bytes beside the counts of header and payload bytes that have
 // come, and the error that ended the stream (number 0: none).
@@ -58,8 +59,7 @@ fn counts_ok(header: &[u8; 44], header_len: usize, payload_len: usize) -> bool
     ensures { λ r. ⌜ r ≡ countsOk (now (header .entry)) «header_len» «payload_len» ⌝ }
 {
     if header_len == OUTER_HEADER_LEN {
-        let refusal = check_header(header);
-        if refusal.number != 0 {
+        if !header_ok(header) {
             return false;
         }
         return payload_len < fields::length(header) as usize;
@@ -168,6 +168,36 @@ fn finished(header: [u8; 44], payload: &[u8], consumed: usize, place: Place) -> 
     complete(header, consumed, place)
 }
 
+// Stores the last bytes of a payload, unless they are its first too.
+fn store_last(before: usize, last: &[u8], stage: &mut [u8])
+    ensures { λ _. ⌜ now (stage .exit) ≡ pick (eqb before 0) (now (stage .entry)) (copied (now (stage .entry)) before (now (last .entry))) ⌝ }
+{
+    if before == 0 {
+        return;
+    }
+    copy_at(stage, before, last);
+}
+
+// Where a payload lies of which `before` bytes had come, and whose last ones lie from `from` on.
+fn place_of(before: usize, from: usize) -> Place
+    ensures { λ r. ⌜ r ≡ pick (eqb before 0) (Place.Piece from) Place.Stage ⌝ }
+{
+    if before != 0 {
+        return Place::Stage;
+    }
+    Place::Piece(from)
+}
+
+// The bytes of a whole payload.
+fn whole<'a>(before: usize, last: &'a [u8], stage: &'a [u8], size: usize) -> &'a [u8]
+    ensures { λ r. ⌜ now r ≡ pick (eqb before 0) (take size (drop 0 (now (last .entry)))) (take size (drop 0 (now (stage .entry)))) ⌝ }
+{
+    if before != 0 {
+        return part(stage, 0, size);
+    }
+    part(last, 0, size)
+}
+
 // The payload step: `before` bytes of the payload have come, and `rest` is the piece from its index
 // `from` on.
 fn payload_step(
@@ -186,11 +216,9 @@ fn payload_step(
         copy_at(stage, before, &rest[0..n]);
         return wait(header, OUTER_HEADER_LEN, before + n, from + n);
     }
-    if before == 0 {
-        return finished(header, &rest[0..n], from + n, Place::Piece(from));
-    }
-    copy_at(stage, before, &rest[0..n]);
-    finished(header, &stage[0..size], from + n, Place::Stage)
+    store_last(before, &rest[0..n], stage);
+    let place = place_of(before, from);
+    finished(header, whole(before, rest, stage, size), from + n, place)
 }
 
 // The header with a part of the piece from an index on.
@@ -203,29 +231,35 @@ fn filled(header: [u8; 44], at: usize, part: &[u8]) -> [u8; 44]
     bytes
 }
 
-// Byte 44 has come: the header checks, and the rest of the piece to the payload step.
-fn checked(header: [u8; 44], rest: &[u8], from: usize, stage: &mut [u8]) -> Pushed
-    requires { ⌜ (65536 ≤ length (now stage)) × (from + length (now rest) < 2 ^ 64) ⌝ }
-    ensures { λ r. ⌜ outcome r (now (stage .exit)) ≡ checkedOf header (now (rest .entry)) from (now (stage .entry)) ⌝ }
+// Byte 44 has come: the header checks, and the rest of the piece to the payload step. While a header
+// is held `before` bytes of its payload have come.
+fn checked(header: [u8; 44], before: usize, rest: &[u8], from: usize, stage: &mut [u8]) -> Pushed
+    requires { ⌜ (before ≤ lengthOf header) × (65536 ≤ length (now stage)) × (from + length (now rest) < 2 ^ 64) ⌝ }
+    ensures { λ r. ⌜ outcome r (now (stage .exit)) ≡ pick (passes (headerChecks header)) (outcome (pushBody header before (take before (now (stage .entry))) (now (rest .entry)) from .answer) (bodyStage header before (now (rest .entry)) (now (stage .entry)))) (outcome (failed header (headerChecks header)) (now (stage .entry))) ⌝ }
 {
-    let refusal = check_header(&header);
-    if refusal.number != 0 {
-        return fail(header, refusal);
+    if !header_ok(&header) {
+        return fail(header, check_header(&header));
     }
-    payload_step(header, 0, rest, from, stage)
+    payload_step(header, before, rest, from, stage)
 }
 
 // The header step.
-fn header_step(header: [u8; 44], had: usize, piece: &[u8], stage: &mut [u8]) -> Pushed
-    requires { ⌜ (had < 44) × (65536 ≤ length (now stage)) ⌝ }
-    ensures { λ r. ⌜ outcome r (now (stage .exit)) ≡ outcome (pushHead header had 0 [] (now (piece .entry)) .answer) (headStage header had 0 (now (piece .entry)) (now (stage .entry))) ⌝ }
+fn header_step(
+    header: [u8; 44],
+    had: usize,
+    before: usize,
+    piece: &[u8],
+    stage: &mut [u8],
+) -> Pushed
+    requires { ⌜ (had ≤ 44) × (before ≤ lengthOf (headWith header had (now piece))) × (65536 ≤ length (now stage)) ⌝ }
+    ensures { λ r. ⌜ outcome r (now (stage .exit)) ≡ outcome (pushHead header had before (take before (now (stage .entry))) (now (piece .entry)) .answer) (headStage header had before (now (piece .entry)) (now (stage .entry))) ⌝ }
 {
     let n = least(OUTER_HEADER_LEN - had, piece.len());
     let bytes = filled(header, had, &piece[0..n]);
     if had + n < OUTER_HEADER_LEN {
         return wait(bytes, had + n, 0, n);
     }
-    checked(bytes, &piece[n..], n, stage)
+    checked(bytes, before, &piece[n..], n, stage)
 }
 
 impl RecordParser {
@@ -264,15 +298,36 @@ impl RecordParser {
         if stage.len() < OUTER_MAX_PAYLOAD {
             return stop(self, Refusal::new(21, 0, 0, 0));
         }
+        self.push_sound(piece, stage)
+    }
+
+    // The push of a sound parser with a whole stage.
+    fn push_sound(self, piece: &[u8], stage: &mut [u8]) -> Pushed
+        requires { ⌜ (soundParser self ≡ true) × (65536 ≤ length (now stage)) ⌝ }
+        ensures { λ r. ⌜ outcome r (now (stage .exit)) ≡ pushOf self (now (piece .entry)) (now (stage .entry)) ⌝ }
+    {
         let error = self.error;
         if error.number != 0 {
             return stop(self, error);
         }
         let header = self.header;
-        if self.header_len == OUTER_HEADER_LEN {
-            return payload_step(header, self.payload_len, piece, 0, stage);
+        header_step(header, self.header_len, self.payload_len, piece, stage)
+    }
+
+    // Whether so many bytes more leave the payload in progress unfinished. The push of such a piece
+    // copies it to the stage, after the payload bytes that have come, and waits.
+    pub fn stays_open(self, count: usize) -> bool
+        ensures { λ r. ⌜ r ≡ eqb (self .«header_len») 44 && ltb (self .«payload_len» + count) (lengthOf (self .header)) ⌝ }
+    {
+        if self.header_len != OUTER_HEADER_LEN {
+            return false;
         }
-        header_step(header, self.header_len, piece, stage)
+        let header = self.header;
+        let size = fields::length(&header) as usize;
+        if size < self.payload_len {
+            return false;
+        }
+        count < size - self.payload_len
     }
 
     // How many more bytes complete the header or the payload in progress.

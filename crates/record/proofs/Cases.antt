@@ -15,10 +15,10 @@ use Rattle.wire.specs.declared.Epoch.{Epoch}
 use Rattle.wire.specs.declared.Sequence.{Sequence}
 use Rattle.wire.specs.declared.refusal.Refusal.{Refusal}
 use Rattle.protocol.specs.declared.outer.Written.{Written}
-use Rattle.wire.proofs.Rows.{picked, passed, and-right, no-rows, row-stops, row-passes, rows-stop, rows-pass}
+use Rattle.wire.proofs.Rows.{picked, passed, pass-all, and-right, no-rows, row-stops, row-passes, rows-stop, rows-pass}
 use Rattle.wire.proofs.Headers.{header-length}
-use Rattle.types.proofs.Cases.{known-code, code-low, unknown-code, length-limit}
 use Rattle.types.specs.Types.{codeOf, typeAt, typeOk, bootstrap, lengthOk, errorOf, errorAt}
+use Rattle.types.proofs.Cases.{known-code, code-low, unknown-code, length-limit}
 use Rattle.record.specs.Record.{allZero, lengthRow, bootstrapRow, payloadRows, payloadChecks, restRows, headerRows, headerChecks, typeFrom, recordWith, recordOf, noRecord, parseHeader}
 use Rattle.record.specs.Record.{recordRows, encodeRows, recordBytes, encodeRecord, noValue, valueIn, errorIn}
 use Rattle.types.specs.declared.RecordType.{RecordType}
@@ -167,6 +167,41 @@ module _ (h : List ℕ) (m g : ℕ) (em : m ≡ magicOf h) (eg : g ≡ fromLe ma
           (row-passes _ _ x _ (ap typeOk (sym c) ∙ code-low t) (q ∙ ap (λ (j : ℕ). first (restRows j h)) c)))
 
 pub ruleset heading = (head-magic, head-version, head-type, head-rest)
+
+-- a header of DATA that passes, and what the checks say by their number
+pub data-passes : (h : List ℕ) (m g v t f n : ℕ) (b : Bool) → m ≡ magicOf h → g ≡ fromLe magic → m ≡ g → v ≡ versionOf h → v ≡ 1 → t ≡ typeOf h → t ≡ 5 → f ≡ flagsOf h → f ≡ 0
+    → n ≡ lengthOf h → b ≡ lengthOk 5 n → b ≡ true → passes (headerChecks h) ≡ true
+unfolding headerChecks
+data-passes h m g v t f n b em eg mg ev v1 et t5 ef f0 en eb ok =
+    let five : typeOf h ≡ 5 = sym et ∙ t5 in
+    let size : lengthOk (typeOf h) (lengthOf h) ≡ true = (λ j. lengthOk (five j) (sym en j)) ∙ sym eb ∙ ok in
+    pass-all (headerRows h) (
+      eq-eqb (magicOf h) (fromLe magic) (sym em ∙ mg ∙ eg),
+      (
+        eq-eqb (versionOf h) 1 (sym ev ∙ v1),
+        (
+          ap typeOk five ∙ code-low Data,
+          (
+            eq-eqb (flagsOf h) 0 (sym ef ∙ f0),
+            (
+              size,
+              (
+                ap (λ (k : ℕ). not (bootstrap k) || (allZero (instanceOf h) && (eqb (epochOf h) 0 && eqb (sequenceOf h) 0))) five,
+                tt,
+              ),
+            ),
+          ),
+        ),
+      ),
+    )
+
+pub ok-data : (h : List ℕ) (b : Bool) → (b ≡ true → passes (headerChecks h) ≡ true) → b ≡ true → true ≡ passes (headerChecks h)
+ok-data h b f e = sym (f e)
+
+pub ok-number : (h : List ℕ) (x : Refusal) → x ≡ headerChecks h → eqb (x .number) 0 ≡ passes (headerChecks h)
+ok-number h x e = ap passes e
+
+pub ruleset accepting = (ok-data, ok-number)
 
 module _ (h : List ℕ) (x : Refusal) (ex : x ≡ headerChecks h) where
   pub parse-stops : (r : Record) → (x .number ≡ 0 → ⊥) → r ≡ noRecord → record { refusal = x; «record» = r } ≡ parseHeader h

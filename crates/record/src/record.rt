@@ -17,11 +17,11 @@ use wire::bytes::u32_from_le_bytes;
 use wire::fields;
 use wire::refusal::Refusal;
 ghost use mathlib.Core.Path.{_≡_};
-ghost use mathlib.Core.Bool.{_&&_};
+ghost use mathlib.Core.Bool.{true, _&&_};
 ghost use mathlib.Core.List.{[], _∷_};
 ghost use lib.ListN.{length};
 ghost use lib.Dec.{eqb};
-ghost use Rattle.wire.specs.Refusals.{refusal, first};
+ghost use Rattle.wire.specs.Refusals.{refusal, first, passes};
 ghost use Rattle.protocol.specs.Outer.{outcome, windowOk, creditOk};
 ghost use Rattle.types.specs.Types.{codeOf};
 ghost use Rattle.record.specs.Record.{allZero, noRecord, lengthRow, bootstrapRow, restRows, recordRows, payloadChecks, recordWith, recordOf, headerChecks, parseHeader, encodeRecord, valueIn, windowIn, creditIn, errorIn};
@@ -223,6 +223,37 @@ pub fn check_header(header: &[u8; 44]) -> Refusal
         return Refusal::new(3, code as u64, 0, 0);
     };
     check_rest(header, record_type)
+}
+
+// Whether the header is one of DATA that passes the checks.
+fn is_data(header: &[u8; 44]) -> bool
+    ensures { λ r. ⌜ (r ≡ true → passes (headerChecks (now (header .entry))) ≡ true) ⌝ }
+{
+    if fields::magic(header) != u32_from_le_bytes(OUTER_MAGIC) {
+        return false;
+    }
+    if fields::version(header) != OUTER_VERSION {
+        return false;
+    }
+    if fields::record_type(header) != 5 {
+        return false;
+    }
+    if fields::flags(header) != 0 {
+        return false;
+    }
+    let record_type = RecordType::Data;
+    record_type.allows_length(fields::length(header) as usize)
+}
+
+// Whether the header checks pass. DATA, the most frequent type, is tested first.
+pub fn header_ok(header: &[u8; 44]) -> bool
+    ensures { λ r. ⌜ r ≡ passes (headerChecks (now (header .entry))) ⌝ }
+{
+    if is_data(header) {
+        return true;
+    }
+    let refusal = check_header(header);
+    refusal.number == 0
 }
 
 // Decodes and validates a record header.

@@ -1,8 +1,11 @@
--- `parser::parser::checked` meets its contract. The laws `checking` have a case for each return: the header's refusal, and what `payload_step` ensures from the payload's start. Assumes nothing.
+-- `parser::parser::checked` meets its contract. The laws `checking` have a case for each return: the header is refused, or the payload step decides. Assumes nothing.
 use Rattle.parser.proofs.Cases.{checking, header-passes}
-use borrow.Author.Needs.{needs, zero≤}
+use borrow.Author.Needs.{needs}
 use Rattle.parser.proofs.parser.checked.Statement.{statement}
 use Rattle.parser.proofs.parser.checked.Tie as tie
+
+header-ok-requires : tie.Need-header-ok-requires
+header-ok-requires c κs = search needs
 
 check-header-requires : tie.Need-check-header-requires
 check-header-requires c κs = search needs
@@ -14,7 +17,7 @@ returns : tie.Need-returns
 returns c = search checking
 
 payload-step-requires : tie.Need-payload-step-requires
-payload-step-requires c κs = search (header-passes, zero≤)
+payload-step-requires c κs = search header-passes
 
 same-length : tie.Need-same-length
 same-length c = search needs
@@ -26,6 +29,7 @@ pub checked-spec : {M : Type 1} → statement M
 checked-spec =
     tie.close
     (tie.spec
+    header-ok-requires
     check-header-requires
     fail-requires
     returns

@@ -4,8 +4,8 @@ use borrow.Author.Needs.{needs}
 use Rattle.parser.proofs.parser.counts_ok.Statement.{statement}
 use Rattle.parser.proofs.parser.counts_ok.Tie as tie
 
-check-header-requires : tie.Need-check-header-requires
-check-header-requires c κs = search needs
+header-ok-requires : tie.Need-header-ok-requires
+header-ok-requires c κs = search needs
 
 returns : tie.Need-returns
 returns c = search counting
@@ -28,11 +28,4 @@ returns-4 c = search counting
 pub counts-ok-spec : {M : Type 1} → statement M
 counts-ok-spec =
     tie.close
-    (tie.spec
-    check-header-requires
-    returns
-    length-requires
-    cast-result
-    returns-2
-    returns-3
-    returns-4)
+    (tie.spec header-ok-requires returns length-requires cast-result returns-2 returns-3 returns-4)

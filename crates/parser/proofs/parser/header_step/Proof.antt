@@ -1,5 +1,5 @@
--- `parser::parser::header_step` meets its contract. The laws `heading` have a case for each return: a header still in progress, and what `checked` ensures of the rest of the piece. Assumes nothing.
-use Rattle.parser.proofs.Cases.{heading}
+-- `parser::parser::header_step` meets its contract. The laws `heading` have a case for each return: header bytes to come, or what follows byte 44. Assumes nothing.
+use Rattle.parser.proofs.Cases.{heading, head-room}
 use borrow.Author.Needs.{needs}
 use Rattle.parser.proofs.parser.header_step.Statement.{statement}
 use Rattle.parser.proofs.parser.header_step.Tie as tie
@@ -44,7 +44,7 @@ part-checked-end : tie.Need-part-checked-end
 part-checked-end c = search needs
 
 checked-requires : tie.Need-checked-requires
-checked-requires c κs = search needs
+checked-requires c κs = (search head-room, search needs, search needs)
 
 same-length : tie.Need-same-length
 same-length c = search needs

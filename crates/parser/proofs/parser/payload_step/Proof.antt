@@ -1,5 +1,5 @@
--- `parser::parser::payload_step` meets its contract. Each return is a case of `pushBody`: a payload still in progress (`body-waits`), one that lies in the piece (`body-piece`), and one that ends in the stage (`body-stage`). By `end-fits` the stage is long enough. Assumes nothing.
-use Rattle.parser.proofs.Cases.{body-waits, body-piece, body-stage, end-fits}
+-- `parser::parser::payload_step` meets its contract. The laws `body-waits` and `body-ends` have the two returns: payload bytes to come, and the payload whole. Assumes nothing.
+use Rattle.parser.proofs.Cases.{body-waits, body-ends}
 use borrow.Author.Needs.{needs}
 use Rattle.parser.proofs.parser.payload_step.Statement.{statement}
 use Rattle.parser.proofs.parser.payload_step.Tie as tie
@@ -46,14 +46,23 @@ same-length c = search needs
 returns : tie.Need-returns
 returns c = search body-waits
 
-sub-finished : tie.Need-sub-finished
-sub-finished c = search needs
+sub-store-last : tie.Need-sub-store-last
+sub-store-last c = search needs
 
-part-finished-start : tie.Need-part-finished-start
-part-finished-start c = search needs
+part-store-last-start : tie.Need-part-store-last-start
+part-store-last-start c = search needs
 
-part-finished-end : tie.Need-part-finished-end
-part-finished-end c = search needs
+part-store-last-end : tie.Need-part-store-last-end
+part-store-last-end c = search needs
+
+store-last-requires : tie.Need-store-last-requires
+store-last-requires c κs = search needs
+
+place-of-requires : tie.Need-place-of-requires
+place-of-requires c κs = search needs
+
+whole-requires : tie.Need-whole-requires
+whole-requires c κs = search needs
 
 add-finished : tie.Need-add-finished
 add-finished c = search needs
@@ -61,43 +70,13 @@ add-finished c = search needs
 finished-requires : tie.Need-finished-requires
 finished-requires c κs = search needs
 
-returns-2 : tie.Need-returns-2
-returns-2 c = search body-piece
-
-sub-copy-at-2 : tie.Need-sub-copy-at-2
-sub-copy-at-2 c = search needs
-
-part-copy-at-start-2 : tie.Need-part-copy-at-start-2
-part-copy-at-start-2 c = search needs
-
-part-copy-at-end-2 : tie.Need-part-copy-at-end-2
-part-copy-at-end-2 c = search needs
-
-copy-at-requires-2 : tie.Need-copy-at-requires-2
-copy-at-requires-2 c κs = search needs
-
-sub-finished-2 : tie.Need-sub-finished-2
-sub-finished-2 c = search needs
-
-part-finished-start-2 : tie.Need-part-finished-start-2
-part-finished-start-2 c = search needs
-
-part-finished-end-2 : tie.Need-part-finished-end-2
-part-finished-end-2 c = search end-fits
-
-add-finished-2 : tie.Need-add-finished-2
-add-finished-2 c = search needs
-
-finished-requires-2 : tie.Need-finished-requires-2
-finished-requires-2 c κs = search needs
-
 same-length-2 : tie.Need-same-length-2
 same-length-2 c = search needs
 
-returns-3 : tie.Need-returns-3
-returns-3 c =
+returns-2 : tie.Need-returns-2
+returns-2 c =
     let p = c .before .before .before .before .before .before .before .before .before .before .before .before .before .before .before .pre in
-    body-stage _ _ _ _ _ _ _ _ (c .before .before .before .before .before .before .before .before .before .before .before .length .ensures) (c .before .before .before .before .before .before .before .before .before .before .least .ensures) (c .before .before .before .before .before .before .before .before .before .if1 .left) (p .1) _ (p .2) (p .0) (c .before .before .before .before .before .before .before .before .if2 .left) (c .before .before .before .before .before .copy-at2 .ensures) (c .finished2 .ensures)
+    body-ends _ _ _ _ _ _ _ _ (c .before .before .before .before .before .before .before .before .before .before .before .length .ensures) (c .before .before .before .before .before .before .before .before .before .before .least .ensures) (c .before .before .before .before .before .before .before .before .before .if1 .left) (p .1) _ _ _ (p .2) (p .0) (c .before .before .before .before .before .before .store-last .ensures) (c .before .before .before .place-of .ensures) (c .before .whole .ensures) (c .finished .ensures)
 
 pub payload-step-spec : {M : Type 1} → statement M
 payload-step-spec =
@@ -117,20 +96,13 @@ payload-step-spec =
     wait-requires
     same-length
     returns
-    sub-finished
-    part-finished-start
-    part-finished-end
+    sub-store-last
+    part-store-last-start
+    part-store-last-end
+    store-last-requires
+    place-of-requires
+    whole-requires
     add-finished
     finished-requires
-    returns-2
-    sub-copy-at-2
-    part-copy-at-start-2
-    part-copy-at-end-2
-    copy-at-requires-2
-    sub-finished-2
-    part-finished-start-2
-    part-finished-end-2
-    add-finished-2
-    finished-requires-2
     same-length-2
-    returns-3)
+    returns-2)

@@ -1,6 +1,7 @@
--- `guest::guest::GuestSession::receive` meets its contract. Each way it returns is a case of its rule: `sound-outstanding` of proofs/Soundness; `receiving`, `receive-pushes` of proofs/Receiving. Assumes nothing.
-use Rattle.guest.proofs.Soundness.{sound-outstanding}
-use Rattle.guest.proofs.Receiving.{receiving, receive-pushes}
+-- `guest::guest::GuestSession::receive` meets its contract. Each way it returns is a case of its rule (proofs/Receiving); a payload that stays unfinished is a push that waits. Assumes nothing.
+use Rattle.guest.proofs.Receiving.{receiving, receive-pushes, stays-told, stays-low}
+use Rattle.guest.proofs.Soundness.{sound-outstanding, sound-within}
+use Rattle.parser.proofs.Cases.{open-taken}
 use borrow.Author.Needs.{needs}
 use Rattle.guest.proofs.guest.GuestSession.receive.Statement.{statement}
 use Rattle.guest.proofs.guest.GuestSession.receive.Tie as tie
@@ -41,18 +42,34 @@ refuse-requires-3 c κs = search needs
 returns-3 : tie.Need-returns-3
 returns-3 c = search receiving
 
-push-requires : tie.Need-push-requires
-push-requires c κs = search needs
+stays-open-requires : tie.Need-stays-open-requires
+stays-open-requires c κs = search needs
 
-after-push-requires : tie.Need-after-push-requires
-after-push-requires c κs = search sound-outstanding
+copy-at-requires : tie.Need-copy-at-requires
+copy-at-requires c κs = search needs
+
+keep-waiting-requires : tie.Need-keep-waiting-requires
+keep-waiting-requires c κs = search (stays-low, sound-within)
 
 same-length : tie.Need-same-length
 same-length c = search needs
 
 returns-4 : tie.Need-returns-4
 returns-4 c =
-    receive-pushes _ _ _ _ _ (c .before .before .before .before .before .before .before .before .before .before .before .is-sound .ensures) (c .before .before .before .before .before .before .before .before .before .before .if1 .left) _ _ (c .before .before .before .before .before .before .before .before .before .if2 .left) (c .before .before .before .before .before .before .before .before .number .ensures) (c .before .before .before .before .before .before .before .is-open .ensures) _ _ (c .before .before .before .before .before .before .if3 .left) (c .before .before .before .push .ensures) (c .after-push .ensures)
+    receive-pushes _ _ _ _ _ (c .before .before .before .before .before .before .before .before .before .before .before .before .before .is-sound .ensures) (c .before .before .before .before .before .before .before .before .before .before .before .before .if1 .left) _ _ (c .before .before .before .before .before .before .before .before .before .before .before .if2 .left) (c .before .before .before .before .before .before .before .before .before .before .number .ensures) (c .before .before .before .before .before .before .before .before .before .is-open .ensures) _ _ (c .before .before .before .before .before .before .before .before .if3 .left) (open-taken _ _ _ _ (search sound-within) (search needs) (search stays-told) (c .before .before .before .copy-at .ensures)) (c .keep-waiting .ensures)
+
+push-requires : tie.Need-push-requires
+push-requires c κs = search needs
+
+after-push-requires : tie.Need-after-push-requires
+after-push-requires c κs = search sound-outstanding
+
+same-length-2 : tie.Need-same-length-2
+same-length-2 c = search needs
+
+returns-5 : tie.Need-returns-5
+returns-5 c =
+    receive-pushes _ _ _ _ _ (c .before .before .before .before .before .before .before .before .before .before .before .before .before .is-sound .ensures) (c .before .before .before .before .before .before .before .before .before .before .before .before .if1 .left) _ _ (c .before .before .before .before .before .before .before .before .before .before .before .if2 .left) (c .before .before .before .before .before .before .before .before .before .before .number .ensures) (c .before .before .before .before .before .before .before .before .before .is-open .ensures) _ _ (c .before .before .before .before .before .before .before .before .if3 .left) (c .before .before .before .push .ensures) (c .after-push .ensures)
 
 pub receive-spec : {M : Type 1} → statement M
 receive-spec =
@@ -70,7 +87,12 @@ receive-spec =
     new-requires-3
     refuse-requires-3
     returns-3
+    stays-open-requires
+    copy-at-requires
+    keep-waiting-requires
+    same-length
+    returns-4
     push-requires
     after-push-requires
-    same-length
-    returns-4)
+    same-length-2
+    returns-5)

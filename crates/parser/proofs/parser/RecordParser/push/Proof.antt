@@ -1,5 +1,5 @@
--- `parser::parser::RecordParser::push` meets its contract. The laws `pushing` have a case for each return: 23, 21, the latched error, the payload step and the header step. What the steps require of the counts, `soundly` takes from soundness. Assumes nothing.
-use Rattle.parser.proofs.Cases.{pushing, soundly}
+-- `RecordParser::push` meets its contract. The laws `pushing` have 23 and 21; the rest is the push of a sound parser. Assumes nothing.
+use Rattle.parser.proofs.Cases.{pushing, sound-told}
 use borrow.Author.Needs.{needs}
 use Rattle.parser.proofs.parser.RecordParser.push.Statement.{statement}
 use Rattle.parser.proofs.parser.RecordParser.push.Tie as tie
@@ -25,29 +25,14 @@ stop-requires-2 c κs = search needs
 returns-2 : tie.Need-returns-2
 returns-2 c = search pushing
 
-stop-requires-3 : tie.Need-stop-requires-3
-stop-requires-3 c κs = search needs
-
-returns-3 : tie.Need-returns-3
-returns-3 c = search pushing
-
-payload-step-requires : tie.Need-payload-step-requires
-payload-step-requires c κs = (search soundly, search soundly, search needs, search needs)
+push-sound-requires : tie.Need-push-sound-requires
+push-sound-requires c κs = search sound-told
 
 same-length : tie.Need-same-length
 same-length c = search needs
 
-returns-4 : tie.Need-returns-4
-returns-4 c = search pushing
-
-header-step-requires : tie.Need-header-step-requires
-header-step-requires c κs = search soundly
-
-same-length-2 : tie.Need-same-length-2
-same-length-2 c = search needs
-
-returns-5 : tie.Need-returns-5
-returns-5 c = search pushing
+returns-3 : tie.Need-returns-3
+returns-3 c = search needs
 
 pub push-spec : {M : Type 1} → statement M
 push-spec =
@@ -60,11 +45,6 @@ push-spec =
     new-requires-2
     stop-requires-2
     returns-2
-    stop-requires-3
-    returns-3
-    payload-step-requires
+    push-sound-requires
     same-length
-    returns-4
-    header-step-requires
-    same-length-2
-    returns-5)
+    returns-3)
