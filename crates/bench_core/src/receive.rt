@@ -7,6 +7,7 @@ use crate::parts::no_sums;
 use crate::parts::piece_end;
 use crate::start::active_guest;
 use guest::guest::GuestEvent;
+use guest::guest::GuestSession;
 use guest::guest::payload;
 use parser::parser::Place;
 ghost use mathlib.Core.Path.{_≡_};
@@ -29,28 +30,52 @@ fn seen<'a>(
     }
 }
 
-// Receives the stream, cut into pieces of so many bytes, and gives the sums over the payloads.
+// A guest at a place of a stream, the end of the piece there, and the sums up to it.
+pub struct Run {
+    pub guest: GuestSession,
+    pub sums: Sums,
+    pub at: usize,
+    pub end: usize,
+}
+
+// One receive.
+fn turn(run: Run, stream: &[u8], piece: usize, whole: bool, stage: &mut [u8]) -> Run {
+    let at = run.at;
+    let end = piece_end(at, run.end, piece, stream.len());
+    let part = cut(stream, at, end);
+    let before = run.guest;
+    let received = before.receive(part, stage);
+    let event = received.event;
+    let place = received.place;
+    let guest = received.session;
+    Run {
+        guest,
+        sums: seen(run.sums, event, part, stage, place, received.length, whole),
+        at: after(at, received.consumed),
+        end,
+    }
+}
+
+// Receives the stream, cut into pieces of so many bytes, and gives the sums over the payloads; 0
+// where a piece is refused.
 #[no_mangle]
 pub extern "C" fn nvxs_receive(stream: &[u8], piece: usize, whole: bool, stage: &mut [u8]) -> u64
     ensures { λ _. ⌜ length (now (stage .exit)) ≡ length (now (stage .entry)) ⌝ }
 {
-    let mut guest = active_guest(stage);
-    let mut sums = no_sums();
+    let mut run = Run {
+        guest: active_guest(stage),
+        sums: no_sums(),
+        at: 0,
+        end: 0,
+    };
     let mut at: usize = 0;
-    let mut end: usize = 0;
     while at < stream.len() {
-        end = piece_end(at, end, piece, stream.len());
-        let part = cut(stream, at, end);
-        let received = guest.receive(part, stage);
-        let event = received.event;
-        let place = received.place;
-        sums = seen(sums, event, part, stage, place, received.length, whole);
-        guest = received.session;
-        let next = after(at, received.consumed);
-        if next <= at {
+        run = turn(run, stream, piece, whole, stage);
+        if run.at <= at {
             return 0;
         }
-        at = next;
+        at = run.at;
     }
+    let sums = run.sums;
     sums.weighted
 }

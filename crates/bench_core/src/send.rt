@@ -3,28 +3,49 @@ use crate::parts::after;
 use crate::parts::cut;
 use crate::parts::piece_end;
 use crate::start::active_guest;
+use guest::guest::GuestSession;
 ghost use mathlib.Core.Path.{_≡_};
 ghost use lib.ListN.{length};
 
+// A guest at a place of the data, and where its output ends.
+pub struct Run {
+    pub guest: GuestSession,
+    pub at: usize,
+    pub next: usize,
+}
+
+// One send of at most so many bytes.
+fn turn(run: Run, data: &[u8], size: usize, output: &mut [u8]) -> Run {
+    let at = run.at;
+    let end = piece_end(at, at, size, data.len());
+    let before = run.guest;
+    let sent = before.send(cut(data, at, end), output, run.next);
+    let guest = sent.session;
+    Run {
+        guest,
+        at: after(at, sent.count),
+        next: sent.next,
+    }
+}
+
 // Sends the data in records of so many bytes, one after another in the output, and gives the
-// position after the last.
+// position after the last; 0 where one is refused.
 #[no_mangle]
 pub extern "C" fn nvxs_send(data: &[u8], size: usize, stage: &mut [u8], output: &mut [u8]) -> usize
     ensures { λ _. ⌜ (length (now (stage .exit)) ≡ length (now (stage .entry))) × (length (now (output .exit)) ≡ length (now (output .entry))) ⌝ }
 {
-    let mut guest = active_guest(stage);
-    let mut next: usize = 0;
+    let mut run = Run {
+        guest: active_guest(stage),
+        at: 0,
+        next: 0,
+    };
     let mut at: usize = 0;
     while at < data.len() {
-        let end = piece_end(at, at, size, data.len());
-        let sent = guest.send(cut(data, at, end), output, next);
-        guest = sent.session;
-        next = sent.next;
-        let following = after(at, sent.count);
-        if following <= at {
+        run = turn(run, data, size, output);
+        if run.at <= at {
             return 0;
         }
-        at = following;
+        at = run.at;
     }
-    next
+    run.next
 }

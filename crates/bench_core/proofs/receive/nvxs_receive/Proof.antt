@@ -1,6 +1,5 @@
 -- `nvxs_receive` meets its contract: the loop keeps the length of the stage. The measure is what is left of the stream. Assumes nothing.
 use borrow.Author.Needs.{needs}
-use native.Mathlib.Omega.{arith}
 use Prim.Native.Nat.{_-_}
 use mathlib.Core.Path.{_≡_}
 use lib.ListN.{length}
@@ -8,10 +7,10 @@ use Rattle.bench_core.proofs.receive.nvxs_receive.Statement.{statement}
 use Rattle.bench_core.proofs.receive.nvxs_receive.Tie as tie
 
 abbrev Inv-loop : tie.InvT-loop
-Inv-loop stream piece whole stage₀ guest₀ sums₀ at₀ end₀ stage guest sums at end = length stage ≡ length stage₀
+Inv-loop stream piece whole stage₀ run₀ at₀ stage run at = length stage ≡ length stage₀
 
 abbrev μ-loop : tie.MeasureT-loop
-μ-loop stream piece whole stage₀ guest₀ sums₀ at₀ end₀ stage guest sums at end = length stream - at
+μ-loop stream piece whole stage₀ run₀ at₀ stage run at = length stream - at
 
 active-guest-requires : tie.Need-active-guest-requires Inv-loop μ-loop
 active-guest-requires c κs = search needs
@@ -22,26 +21,14 @@ no-sums-requires c κs = search needs
 loop-holds : tie.Need-loop-holds Inv-loop μ-loop
 loop-holds c = search needs
 
-piece-end-requires : tie.Need-piece-end-requires Inv-loop μ-loop
-piece-end-requires c κs = search needs
-
-cut-requires : tie.Need-cut-requires Inv-loop μ-loop
-cut-requires c κs = search needs
-
-receive-requires : tie.Need-receive-requires Inv-loop μ-loop
-receive-requires c κs = search needs
-
-seen-requires : tie.Need-seen-requires Inv-loop μ-loop
-seen-requires c κs = search needs
-
-after-requires : tie.Need-after-requires Inv-loop μ-loop
-after-requires c κs = search needs
+turn-requires : tie.Need-turn-requires Inv-loop μ-loop
+turn-requires c κs = search needs
 
 same-length : tie.Need-same-length Inv-loop μ-loop
-same-length c = omega (arith, c .before .before .before .before .before .before .before .receive .kept .1 .1 .0, c .before .before .before .before .before .before .before .before .before .before .before .before .loop .inv, c .before .before .before .before .before .before .before .before .before .before .before .before .before .before .before .before .active-guest .kept .0)
+same-length c = search needs
 
 returns : tie.Need-returns Inv-loop μ-loop
-returns c = omega (arith, c .before .before .before .before .before .before .before .receive .kept .1 .1 .0, c .before .before .before .before .before .before .before .before .before .before .before .before .loop .inv, c .before .before .before .before .before .before .before .before .before .before .before .before .before .before .before .before .active-guest .kept .0)
+returns c = search needs
 
 loop-less : tie.Need-loop-less Inv-loop μ-loop
 loop-less c = search needs
@@ -64,11 +51,7 @@ nvxs-receive-spec =
     active-guest-requires
     no-sums-requires
     loop-holds
-    piece-end-requires
-    cut-requires
-    receive-requires
-    seen-requires
-    after-requires
+    turn-requires
     same-length
     returns
     loop-less

@@ -7,10 +7,10 @@ use Rattle.bench_core.proofs.send.nvxs_send.Statement.{statement}
 use Rattle.bench_core.proofs.send.nvxs_send.Tie as tie
 
 abbrev Inv-loop : tie.InvT-loop
-Inv-loop «data» size stage output₀ guest₀ next₀ at₀ output guest next at = length output ≡ length output₀
+Inv-loop «data» size stage output₀ run₀ at₀ output run at = length output ≡ length output₀
 
 abbrev μ-loop : tie.MeasureT-loop
-μ-loop «data» size stage output₀ guest₀ next₀ at₀ output guest next at = length «data» - at
+μ-loop «data» size stage output₀ run₀ at₀ output run at = length «data» - at
 
 active-guest-requires : tie.Need-active-guest-requires Inv-loop μ-loop
 active-guest-requires c κs = search needs
@@ -18,17 +18,8 @@ active-guest-requires c κs = search needs
 loop-holds : tie.Need-loop-holds Inv-loop μ-loop
 loop-holds c = search needs
 
-piece-end-requires : tie.Need-piece-end-requires Inv-loop μ-loop
-piece-end-requires c κs = search needs
-
-cut-requires : tie.Need-cut-requires Inv-loop μ-loop
-cut-requires c κs = search needs
-
-send-requires : tie.Need-send-requires Inv-loop μ-loop
-send-requires c κs = search needs
-
-after-requires : tie.Need-after-requires Inv-loop μ-loop
-after-requires c κs = search needs
+turn-requires : tie.Need-turn-requires Inv-loop μ-loop
+turn-requires c κs = search needs
 
 same-length : tie.Need-same-length Inv-loop μ-loop
 same-length c = search needs
@@ -62,10 +53,7 @@ nvxs-send-spec =
     μ-loop
     active-guest-requires
     loop-holds
-    piece-end-requires
-    cut-requires
-    send-requires
-    after-requires
+    turn-requires
     same-length
     same-length-2
     returns
