@@ -37,5 +37,7 @@ endif
 -include tests/differential/differential.mk
 # Gives the targets listing-differential and listing-large.
 -include tests/listing/listing.mk
+# Gives the target bench.
+-include bench/bench.mk
 # Gives the target bench-listing.
 -include bench/listing/listing.mk

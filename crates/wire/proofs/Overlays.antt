@@ -1,20 +1,31 @@
 -- A list laid over a part of another: a loop that copies, and copies side by side. Assumes nothing.
-use Prim.Native.Nat.{ℕ, suc, _+_, _-_, _≤_, _<_}
+use Prim.Native.Nat.{ℕ, zero, suc, _+_, _-_, _≤_, _<_}
 use mathlib.Core.Path.{_≡_, refl, sym, ap, ap₂, _∙_}
-use mathlib.Core.List.{List, [], _∷_, _++_, append-assoc}
+use mathlib.Core.List.{List, [], _∷_, _++_, append-assoc, append-nil}
 use native.Mathlib.Numerals.{add-one}
+use native.Mathlib.Nat.{zero-add, add-zero, not-suc-le-zero, le-of-suc-le-suc}
 use native.Mathlib.Omega.{arith}
 use lib.ListN.{length, getD, take, drop, set, length-append, length-take, length-drop}
-use lib.Seq.{paste, paste-suc, take-length, take-at, drop-at, drop-drop, take-append-le}
+use lib.Seq.{paste, paste-suc, getD-take, drop-length, take-length, take-at, drop-at, drop-drop, take-append-le}
 use lib.Dec.{leb}
 use borrow.Author.Tests.{le-leb, lt-leb}
-use Rattle.wire.specs.Bytes.{overlay, copied}
+use Rattle.wire.specs.Bytes.{overlay, copied, bytesAt}
 use Rattle.wire.specs.Refusals.{pick}
 
 -- one more byte of a copy, and its end
 pub paste-more : (d : List ℕ) (at : ℕ) (s : List ℕ) (i : ℕ) → at + i < length d → i < length s
     → set (paste d at s i) (at + i) (getD s i 0) ≡ paste d at s (i + 1)
 paste-more d at s i h k = rw add-one (paste-suc d at s i 0 h k)
+
+-- the same at the front of a list, and with the first n bytes of a source
+pub paste-front : (d : List ℕ) (s : List ℕ) (i : ℕ) → i < length d → i < length s → set (paste d 0 s i) i (getD s i 0) ≡ paste d 0 s (i + 1)
+paste-front d s i h k = ap (λ (j : ℕ). set (paste d 0 s i) j (getD s i 0)) (sym (zero-add i)) ∙ paste-more d 0 s i (omega arith) k
+
+pub paste-part : (d : List ℕ) (at n : ℕ) (s : List ℕ) (i : ℕ) → at + i < length d → i < n → n ≤ length s
+    → set (paste d at (take n s) i) (at + i) (getD s i 0) ≡ paste d at (take n s) (i + 1)
+paste-part d at n s i h k w =
+    let e : getD (take n s) i 0 ≡ getD s i 0 = getD-take n s i 0 k in
+    rw e at (paste-more d at (take n s) i h (simp length-take (omega arith)))
 
 pub paste-whole : (d : List ℕ) (at : ℕ) (s : List ℕ) → paste d at s (length s) ≡ overlay d at s
 unfolding overlay
@@ -59,6 +70,25 @@ overlay-next d at a b room =
     ap₂ (λ (x y : List ℕ). x ++ (b ++ y)) (take-overlay d at a (omega arith)) e
     ∙ append-assoc (take at d) a (b ++ drop (at + length (a ++ b)) d)
     ∙ ap (λ (x : List ℕ). take at d ++ x) (sym (append-assoc a b (drop (at + length (a ++ b)) d)))
+
+-- a copy through a block
+pub overlay-block : (d : List ℕ) (at : ℕ) (b s : List ℕ) → length s ≤ length b → overlay d at (take (length s) (overlay b 0 s)) ≡ overlay d at s
+overlay-block d at b s h = ap (overlay d at) (part-overlay b 0 s (omega arith))
+
+-- a list laid over one of its length is all of it
+pub overlay-all : (d s : List ℕ) → length s ≡ length d → overlay d 0 s ≡ s
+unfolding overlay
+overlay-all d s h =
+    let e : drop (0 + length s) d ≡ [] = ap (λ (k : ℕ). drop k d) (zero-add (length s) ∙ h) ∙ drop-length d in
+    ap (λ (r : List ℕ). s ++ r) e ∙ append-nil s
+
+-- a byte of `bytesAt`
+pub getD-bytesAt : (i n : ℕ) (l : List ℕ) (j : ℕ) → j < n → getD (bytesAt i n l) j 0 ≡ getD l (i + j) 0
+getD-bytesAt i zero l j h = absurd (not-suc-le-zero h)
+getD-bytesAt i (suc n) l zero h = ap (λ (k : ℕ). getD l k 0) (sym (add-zero i))
+getD-bytesAt i (suc n) l (suc j) h =
+    let e : i + 1 + j ≡ i + suc j = omega arith in
+    getD-bytesAt (i + 1) n l j (le-of-suc-le-suc h) ∙ ap (λ (k : ℕ). getD l k 0) e
 
 -- a copy that fits, and the three ways of `copy_at`
 pub copied-fits : (d : List ℕ) (at : ℕ) (s : List ℕ) → at + length s ≤ length d → copied d at s ≡ overlay d at s

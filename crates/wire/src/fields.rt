@@ -34,24 +34,13 @@ pub fn flags(header: &[u8; 44]) -> u8
 pub fn instance_id(header: &[u8; 44]) -> [u8; 16]
     ensures { λ r. ⌜ r ≡ instanceOf (now (header .entry)) ⌝ }
 {
-    [
-        header[8],
-        header[9],
-        header[10],
-        header[11],
-        header[12],
-        header[13],
-        header[14],
-        header[15],
-        header[16],
-        header[17],
-        header[18],
-        header[19],
-        header[20],
-        header[21],
-        header[22],
-        header[23],
-    ]
+    let mut bytes = [0u8; 16];
+    let mut i: usize = 0;
+    while i < 16 {
+        bytes[i] = header[8 + i];
+        i += 1;
+    }
+    bytes
 }
 
 pub fn epoch(header: &[u8; 44]) -> Epoch

@@ -13,8 +13,8 @@ sub-if2 c = search needs
 returns-2 : tie.Need-returns-2
 returns-2 c = search copying
 
-copy-requires : tie.Need-copy-requires
-copy-requires c κs = search needs
+copy-block-requires : tie.Need-copy-block-requires
+copy-block-requires c κs = search needs
 
 same-length : tie.Need-same-length
 same-length c = search needs
@@ -22,5 +22,25 @@ same-length c = search needs
 returns-3 : tie.Need-returns-3
 returns-3 c = search copying
 
+copy-requires : tie.Need-copy-requires
+copy-requires c κs = search needs
+
+same-length-2 : tie.Need-same-length-2
+same-length-2 c = search needs
+
+returns-4 : tie.Need-returns-4
+returns-4 c = search copying
+
 pub copy-at-spec : {M : Type 1} → statement M
-copy-at-spec = tie.close (tie.spec returns sub-if2 returns-2 copy-requires same-length returns-3)
+copy-at-spec =
+    tie.close
+    (tie.spec
+    returns
+    sub-if2
+    returns-2
+    copy-block-requires
+    same-length
+    returns-3
+    copy-requires
+    same-length-2
+    returns-4)

@@ -1,0 +1,72 @@
+// Sessions at the point where DATA flows, and the parser of a relay between them.
+use guest::guest::GuestSession;
+use host::host::HostSession;
+use record::record::encode_record;
+use types::RecordType;
+use wire::Epoch;
+use wire::Sequence;
+
+// The identity's instance and epoch, and the guest's window.
+pub const INSTANCE: [u8; 16] = [
+    17,
+    17,
+    17,
+    17,
+    17,
+    17,
+    17,
+    17,
+    17,
+    17,
+    17,
+    17,
+    17,
+    17,
+    17,
+    17,
+];
+
+pub const EPOCH: u64 = 7;
+
+pub const WINDOW: u32 = 4194304;
+
+// A record of no payload with sequence 0.
+fn opening(record_type: RecordType) -> [u8; 44] {
+    let mut bytes = [0u8; 44];
+    let empty = [0u8; 0];
+    encode_record(
+        record_type,
+        INSTANCE,
+        Epoch(EPOCH),
+        Sequence(0),
+        &empty,
+        &mut bytes,
+        0,
+    );
+    bytes
+}
+
+// A guest that has attached, got a RESET of sequence 0 and acknowledged it.
+pub(crate) fn active_guest(stage: &mut [u8]) -> GuestSession {
+    let mut output = [0u8; 48];
+    let attached = GuestSession::new().attach(&mut output, 0);
+    let attaching = attached.session;
+    let reset = opening(RecordType::Reset);
+    let received = attaching.receive(&reset, stage);
+    let resetting = received.session;
+    let acknowledged = resetting.acknowledge(WINDOW, &mut output, 0);
+    acknowledged.session
+}
+
+// A host that has attached, got a READY of sequence 0 and sent a byte, so that its next record has
+// the sequence that the guest expects.
+pub(crate) fn attached_host(stage: &mut [u8]) -> HostSession {
+    let mut output = [0u8; 76];
+    let attached = HostSession::new().attach([7u8; 32], &mut output, 0);
+    let attaching = attached.session;
+    let ready = opening(RecordType::Ready);
+    let received = attaching.receive(&ready, stage);
+    let host = received.session;
+    let sent = host.send(b"0", &mut output, 0);
+    sent.session
+}
