@@ -1,32 +1,29 @@
 -- The cases of the listing's rules, a law for each `return` of the code: what was tested there, and what is answered. Assumes nothing.
-use Prim.Native.Nat.{ℕ, _+_, _-_, _^_, _≤_, _<_, min}
-use mathlib.Core.Path.{_≡_, refl, sym, ap, _∙_}
-use mathlib.Core.Bool.{Bool, true, false, not, _&&_}
-use mathlib.Core.List.{List, [], _∷_}
+use Prim.Native.Nat.{ℕ, _+_, _-_, _^_, _≤_, _<_}
+use mathlib.Core.Path.{_≡_, sym, ap, _∙_}
+use mathlib.Core.Bool.{Bool, true, false, _&&_}
+use mathlib.Core.List.{List}
 use native.Mathlib.Omega.{arith}
 use native.Mathlib.Decide.{decLe}
-use lib.ListN.{length, take, drop}
-use lib.Dec.{eqb, leb, ltb}
-use borrow.Author.Tests.{le-leb, lt-leb, leb-true, eq-eqb, ne-eqb, not-true, not-false}
+use lib.ListN.{length}
+use lib.Dec.{eqb, leb}
+use borrow.Author.Tests.{le-leb, lt-leb, leb-true, eq-eqb, ne-eqb}
 use Rattle.wire.specs.Bytes.{overlay}
-use Rattle.wire.specs.Refusals.{pick, refusal, none, first, passes}
-use Rattle.protocol.specs.Outer.{valueOf, write}
-use Rattle.protocol.specs.Outer as outer
+use Rattle.wire.specs.Refusals.{pick, refusal, none, passes}
+use Rattle.protocol.specs.Outer.{valueOf}
 use Rattle.wire.specs.declared.refusal.Refusal.{Refusal}
-use Rattle.protocol.specs.declared.outer.Written.{Written}
-use Rattle.wire.proofs.Rows.{picked, and-left, and-right, pass-all, row-stops, row-passes}
+use Rattle.wire.proofs.Rows.{picked, and-left, and-right}
 use Rattle.types.specs.Types.{codeOf}
-use Rattle.record.specs.declared.record.Record.{Record}
 use Rattle.parser.specs.Push as parser
 use Rattle.parser.specs.Push.{soundParser, pushOf, push, heldIn, bufferedOf, counted, payloadAt}
 use Rattle.parser.specs.declared.parser.Count.{Count}
 use Rattle.parser.specs.declared.parser.Pushed.{Pushed}
 use Rattle.decimal.specs.Decimal.{Puts}
-use Rattle.listing.specs.Listing.{names, line, ending, openAfter, limit}
-use Rattle.listing.specs.Steps.{listingOf, readOf, soundListing, listed, Outcome, outcome, opens, lineOf, recordListed, pushed, stepOf, lines, soundRow, roomRow, listRows, readable, listOf, endOf}
+use Rattle.listing.specs.Listing.{line, openAfter, limit}
+use Rattle.listing.specs.Steps.{listingOf, readOf, soundListing, listed, Outcome, outcome, opens, lineOf, recordListed, pushed, stepOf}
 use Rattle.listing.specs.declared.listing.Listing.{Listing}
 use Rattle.listing.specs.declared.listing.Listed.{Listed}
-use Rattle.listing.proofs.Counts.{Came, came, clash}
+use Rattle.listing.proofs.Counts.{Came, came}
 
 -- ---- soundness
 module _ (s : Listing) (c : Count) (e : c ≡ counted (s .parser) (bufferedOf (s .parser))) where

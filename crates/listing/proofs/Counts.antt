@@ -1,21 +1,21 @@
 -- What a push does with the counts of a sound parser: every byte taken is one more that it holds, or ends a record whose bytes are
 -- all counted. Either no header byte is taken or no payload byte is held, so the sums agree. Assumes nothing.
-use Prim.Native.Nat.{ℕ, _+_, _-_, _≤_, _<_, min}
+use Prim.Native.Nat.{ℕ, _+_, _-_, _≤_, _<_}
 use mathlib.Core.Path.{_≡_, refl, sym, ap, _∙_}
-use mathlib.Core.Bool.{Bool, true, false, _&&_}
+use mathlib.Core.Bool.{Bool, true, false}
 use mathlib.Core.List.{List, [], _∷_, _++_}
 use native.Mathlib.Omega.{arith}
 use native.Mathlib.Decide.{decLt}
 use lib.ListN.{length, take, drop, length-drop}
-use lib.Dec.{eqb, leb, ltb, lit≤}
-use borrow.Author.Tests.{ltb-true, ltb-false, eqb-true, eqb-false, lt-ltb, le-leb, eq-eqb, ne-eqb}
+use lib.Dec.{eqb, ltb, lit≤}
+use borrow.Author.Tests.{ltb-true, ltb-false, eqb-true, le-leb, ne-eqb}
 use Rattle.wire.specs.Bytes.{overlay}
-use Rattle.wire.specs.Refusals.{pick, none, first, passes}
+use Rattle.wire.specs.Refusals.{pick, first, passes}
 use Rattle.wire.specs.Header.{typeOf, lengthOf}
 use Rattle.wire.specs.declared.refusal.Refusal.{Refusal}
 use Rattle.wire.proofs.Rows.{picked, and-left, and-right}
 use Rattle.record.specs.Record.{headerRows, headerChecks, payloadRows, payloadChecks, recordWith}
-use Rattle.parser.specs.Push.{parserOf, countsOk, errorOk, soundParser, Push, stopped, waiting, failed, completed, finish, bodyTaken, pushBody, headTaken, headWith, pushHead, pushRows, push, bufferedOf}
+use Rattle.parser.specs.Push.{countsOk, errorOk, soundParser, Push, failed, finish, bodyTaken, pushBody, headTaken, headWith, pushHead, pushRows, push, bufferedOf}
 use Rattle.parser.specs.declared.parser.RecordParser.{RecordParser}
 use Rattle.parser.specs.declared.parser.Place.{Place}
 use Rattle.parser.specs.declared.parser.Place.the-variants.{Piece, Stage}

@@ -1,19 +1,17 @@
 -- The loop over a piece: what is left to do from where it stands is what was to be done at first, with enough pushes allowed for the
 -- bytes that are left. And the ways out of the calls that write. Assumes nothing.
-use Prim.Native.Nat.{ℕ, zero, suc, _+_, _-_, _^_, _≤_, _<_, min}
+use Prim.Native.Nat.{ℕ, zero, suc, _+_, _-_, _≤_, _<_, min}
 use mathlib.Core.Path.{_≡_, refl, sym, ap, subst, _∙_}
 use mathlib.Core.Bool.{Bool, true, false, not, _&&_}
 use mathlib.Core.List.{List, [], _∷_}
 use native.Mathlib.Omega.{arith}
-use lib.ListN.{length, take, drop, length-take, length-drop}
-use lib.Dec.{eqb, leb, ltb}
+use lib.ListN.{length, take, drop, length-drop}
+use lib.Dec.{leb}
 use borrow.Author.Tests.{le-leb, lt-leb, lt-ltb, le-ltb, eq-eqb, ne-eqb, not-true, not-false}
-use Rattle.wire.specs.Bytes.{overlay}
 use Rattle.wire.specs.Refusals.{pick, refusal, none, first, passes}
 use Rattle.protocol.specs.Outer.{write}
 use Rattle.protocol.specs.Outer as outer
 use Rattle.wire.specs.declared.refusal.Refusal.{Refusal}
-use Rattle.protocol.specs.declared.outer.Written.{Written}
 use Rattle.wire.proofs.Rows.{pass-all, row-stops, row-passes}
 use Rattle.parser.specs.Push.{bufferedOf}
 use Rattle.parser.proofs.Parts.{part-end, take-min}
@@ -22,7 +20,7 @@ use Rattle.listing.specs.Listing.{names, ending, limit}
 use Rattle.listing.specs.Steps.{readOf, soundListing, listed, Outcome, outcome, stepOf, lines, soundRow, roomRow, listRows, readable, listOf, namesOf, endLine, endOf}
 use Rattle.listing.specs.declared.listing.Listing.{Listing}
 use Rattle.listing.specs.declared.listing.Listed.{Listed}
-use Rattle.listing.proofs.Cases.{Facts, facts, Stepped, stepped}
+use Rattle.listing.proofs.Cases.{Stepped, stepped}
 
 -- ---- one turn of the rule
 module _ (s : Listing) (piece stage output : List ℕ) (taken at : ℕ) where

@@ -1,10 +1,10 @@
 -- A line is its numbers put one after the other: each takes at most 21 bytes, so that six have room in 126. Assumes nothing.
-use mathlib.Core.Path.{_≡_, refl, sym, _∙_}
+use mathlib.Core.Path.{_≡_, _∙_}
 use mathlib.Core.List.{List, [], _∷_, _++_}
 use Prim.Native.Nat.{ℕ, _+_, _≤_}
 use native.Mathlib.Omega.{arith}
 use lib.ListN.{length}
-use Rattle.wire.specs.Bytes.{overlay, copied}
+use Rattle.wire.specs.Bytes.{copied}
 use Rattle.wire.proofs.Overlays.{copied-fits}
 use Rattle.decimal.specs.Decimal.{number, Puts, placed, putNumber}
 use Rattle.decimal.proofs.Puts.{puts-length, puts-then, number-puts, number-room}

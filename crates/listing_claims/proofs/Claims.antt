@@ -3,10 +3,10 @@
 use Prim.Native.Nat.{ℕ, zero, suc, _+_, _-_, _≤_, _<_, min}
 use mathlib.Core.Path.{_≡_, refl, sym, ap, subst, _∙_}
 use mathlib.Core.Bool.{Bool, true, false, _&&_}
-use mathlib.Core.List.{List, [], _∷_, _++_, append-assoc, append-nil}
+use mathlib.Core.List.{List, [], _∷_, _++_, append-nil}
 use native.Mathlib.Omega.{arith}
-use lib.ListN.{length, take, drop, length-take, length-append}
-use lib.Seq.{take-at, take-all, take-append-add}
+use lib.ListN.{length, take, drop, length-take}
+use lib.Seq.{take-at, take-all}
 use lib.Dec.{leb, ltb}
 use borrow.Author.Tests.{le-leb, leb-true, eqb-true, lt-ltb}
 use Rattle.wire.specs.Bytes.{overlay, fromLe, toLe}
@@ -25,7 +25,7 @@ use Rattle.claims.proofs.Feeds.{bytesIn, fresh-ready}
 use Rattle.claims.proofs.Latch.{again}
 use Rattle.listing.specs.Listing.{names, line, ending, openAfter, limit, listFrom, linesFrom, listing}
 use Rattle.listing.specs.Steps.{fresh, readOf, soundListing, listed, Outcome, outcome, stepOf, lineRoom, soundRow, roomRow, lines, listRows, readable, listOf, namesOf, endLine, endOf}
-use Rattle.listing.specs.Calls.{Calls, Ended, all-taken, refused, full}
+use Rattle.listing.specs.Calls.{Ended, all-taken, refused, full}
 use Rattle.listing.specs.declared.listing.Listing.{Listing}
 use Rattle.listing.proofs.Cases.{facts, Stepped, stepped}
 use Rattle.listing_claims.specs.Claims.{joined, text, OutputIsListing, NeverUnsound, TakesSome, ReadingEnds, ListingClaims}

@@ -1,25 +1,25 @@
 -- A listing stands for what is still to be written, as a function of the bytes still to come (`future`): the lines from its offset on of
 -- the bytes held and those bytes. A push writes a beginning of that and leaves the rest, by what a scan of the bytes held and the piece
 -- says. Assumes nothing.
-use Prim.Native.Nat.{ℕ, zero, suc, _+_, _-_, _≤_, _<_}
+use Prim.Native.Nat.{ℕ, _+_, _-_, _≤_}
 use mathlib.Core.Path.{_≡_, refl, sym, ap, ap₂, subst, _∙_}
 use mathlib.Core.Bool.{Bool, true, false}
-use mathlib.Core.List.{List, [], _∷_, _++_, append-assoc}
+use mathlib.Core.List.{List, [], _++_, append-assoc}
 use native.Mathlib.Omega.{arith}
 use lib.ListN.{length, take, drop, length-append, length-take, take-append-drop}
 use lib.Seq.{take-append-add, drop-length}
 use Rattle.wire.specs.Bytes.{overlay}
-use Rattle.wire.specs.Refusals.{pick, none, passes}
+use Rattle.wire.specs.Refusals.{pick, passes}
 use Rattle.wire.specs.Header.{typeOf, epochOf, sequenceOf, lengthOf}
 use Rattle.wire.specs.declared.refusal.Refusal.{Refusal}
 use Rattle.types.specs.Types.{codeOf}
-use Rattle.record.specs.Record.{headerChecks, recordOf, recordWith}
+use Rattle.record.specs.Record.{recordWith}
 use Rattle.record.specs.declared.record.Record.{Record}
-use Rattle.parser.specs.Push.{parserOf, Push, push, headWith, pushStage, pushOf, heldIn, bufferedOf, payloadAt}
+use Rattle.parser.specs.Push.{Push, push, headWith, pushStage, pushOf, heldIn, bufferedOf, payloadAt}
 use Rattle.parser.specs.declared.parser.RecordParser.{RecordParser}
 use Rattle.parser.specs.declared.parser.Pushed.{Pushed}
 use Rattle.parser.proofs.Parts.{overlay-nothing}
-use Rattle.claims.specs.Reading.{heldBytes, Ready}
+use Rattle.claims.specs.Reading.{Ready}
 use Rattle.claims.proofs.Scans.{Scan, unfinished, whole, refused, scan}
 use Rattle.claims.proofs.Records.{code-is}
 use Rattle.claims.proofs.Outcomes.{true-not-false, part-low, ready-part, Pending, Completed, Refused, Matches}
@@ -31,7 +31,6 @@ use Rattle.decimal.proofs.Digits.{number-length}
 use Rattle.listing.specs.Listing.{line, ending, openAfter, limit, linesFrom}
 use Rattle.listing.specs.Steps.{listingOf, readOf, soundListing, listed, Outcome, outcome, opens, lineOf, recordListed, pushed, stepOf}
 use Rattle.listing.specs.declared.listing.Listing.{Listing}
-use Rattle.listing.specs.declared.listing.Listed.{Listed}
 use Rattle.listing.proofs.Cases.{facts, Stepped, stepped}
 use Rattle.listing_claims.proofs.Scanned.{refused-lines, whole-lines}
 

@@ -1,23 +1,23 @@
 -- A call of `list` writes a beginning of what is still to be written, and so do calls one after the other: each turn of the loop is one
 -- push, and texts put one after the other are one text. Assumes nothing.
-use Prim.Native.Nat.{ℕ, zero, suc, _+_, _-_, _≤_, _<_, min}
+use Prim.Native.Nat.{ℕ, zero, suc, _+_, _-_, _≤_, min}
 use mathlib.Core.Path.{_≡_, refl, sym, ap, subst, _∙_}
 use mathlib.Core.Bool.{Bool, true, false, _&&_}
-use mathlib.Core.List.{List, [], _∷_, _++_, append-assoc, append-nil}
+use mathlib.Core.List.{List, [], _++_, append-assoc}
 use native.Mathlib.Omega.{arith}
-use lib.ListN.{length, take, drop, length-drop, length-take, take-append-drop}
+use lib.ListN.{length, drop, length-drop, length-take, take-append-drop}
 use lib.Seq.{drop-drop, drop-append-le}
 use lib.Dec.{leb, ltb}
-use borrow.Author.Tests.{leb-true, ltb-true}
+use borrow.Author.Tests.{leb-true}
 use Rattle.wire.specs.Refusals.{pick, refusal, none, first, passes}
 use Rattle.protocol.specs.Outer.{maxPayload}
 use Rattle.wire.specs.declared.refusal.Refusal.{Refusal}
-use Rattle.wire.proofs.Rows.{picked, and-left, and-right}
+use Rattle.wire.proofs.Rows.{picked, and-right}
 use Rattle.claims.proofs.Outcomes.{true-not-false}
 use Rattle.decimal.specs.Decimal.{Puts}
 use Rattle.decimal.proofs.Puts.{puts-length, puts-then, put-first}
 use Rattle.listing.specs.Listing.{limit}
-use Rattle.listing.specs.Steps.{readOf, soundListing, listed, Outcome, outcome, stepOf, lineRoom, lines, listRows, readable, listOf}
+use Rattle.listing.specs.Steps.{readOf, soundListing, listed, Outcome, stepOf, lineRoom, lines, listRows, readable, listOf}
 use Rattle.listing.specs.Calls.{Calls, stop, call, written}
 use Rattle.listing.specs.declared.listing.Listing.{Listing}
 use Rattle.listing.proofs.Cases.{facts, Stepped, stepped}

@@ -23,7 +23,8 @@ fn flush(output: &[u8], count: usize) -> bool {
     false
 }
 
-// Whether there is more to list: what was written went out, nothing was refused, and bytes were taken.
+// Whether there is more to list: what was written went out, nothing was refused, and bytes were
+// taken.
 fn goes_on(out: bool, number: u8, taken: usize) -> bool
     ensures { λ r. ⌜ (r ≡ true → 0 < taken) ⌝ }
 {

@@ -79,9 +79,10 @@ fn answered(rng: &mut Rng, bytes: &[u8], words: &[String]) -> std::io::Result<Ve
 }
 
 pub fn compare(seed: u64, captures: usize, words: &[String]) -> Result<(), String> {
-    let mut rng = Rng::new(seed);
     let (mut reach, mut differences, mut lines, mut size) = (Reach::default(), 0, 0, 0);
     for number in 0..captures {
+        // Each capture follows from the seed and its number, whatever the program does.
+        let mut rng = Rng::new(seed.wrapping_add((number as u64) << 32));
         let bytes = capture::random(&mut rng);
         let want = expected(&mut rng, &bytes).map_err(|error| error.to_string())?;
         let got = answered(&mut rng, &bytes, words).map_err(|error| error.to_string())?;

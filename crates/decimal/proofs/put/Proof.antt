@@ -3,7 +3,6 @@
 use Prim.Native.Nat.{_≤_}
 use mathlib.Core.Path.{sym}
 use native.Mathlib.Omega.{arith}
-use lib.ListN.{length, length-take}
 use borrow.Author.Needs.{needs}
 use Rattle.decimal.proofs.Digits.{digits-few}
 use Rattle.decimal.proofs.Puts.{digits-put}
