@@ -1,5 +1,6 @@
 # make test: every check of the repository; its last line is that of rt ci.
 # make run:  prove and build the link listing, and list a sample; CAPTURE=file lists any file.
+# make bench: time the port against the Rust reference (docs/SPEED.md).
 .DEFAULT_GOAL := test
 .PHONY: test run rt-present differential-where-present
 MAKEFLAGS += --no-print-directory
