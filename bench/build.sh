@@ -9,7 +9,7 @@ cp "$here"/*.rs "$out/"
 rt staticlib bench_core > "$out/staticlib.log" 2>&1 || { tail -n 20 "$out/staticlib.log" >&2; exit 1; }
 # The block of `copy_at` is one move of memory in machine code: no function keeps 65,536 bytes on its stack.
 objdump -d target/staticlib/libbench_core.a > "$out/code"
-if grep -qE 'sub +\$0x[0-9a-f]{5,},%rsp' "$out/code"; then
+if grep -qE 'add +\$0x[0-9a-f]{5,},%rsp' "$out/code"; then
     echo "bench: a copy goes through a block on the stack" >&2
     exit 1
 fi
