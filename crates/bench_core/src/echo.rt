@@ -6,11 +6,11 @@ use crate::parts::cut;
 use crate::parts::no_sums;
 use crate::start::active_guest;
 use crate::start::attached_host;
+use codec::encode_record;
 use guest::guest::GuestSession;
 use host::host::HostSession;
 use parser::parser::RecordParser;
 use record::record::Record;
-use record::record::encode_record;
 use types::RecordType;
 use wire::Sequence;
 ghost use mathlib.Core.Path.{_≡_};
@@ -56,9 +56,9 @@ fn low(x: usize) -> u32 {
 
 // The guest sends bytes back and credits them.
 fn answer(g: GuestSession, bytes: &[u8], reply: &mut [u8]) -> GuestTurn {
-    let sent = g.send(bytes, reply, 0);
+    let sent = guest_calls::send(g, bytes, reply, 0);
     let sending = sent.session;
-    let credited = sending.credit(low(bytes.len()), reply, sent.next);
+    let credited = guest_calls::credit(sending, low(bytes.len()), reply, sent.next);
     let guest = credited.session;
     GuestTurn {
         guest,
@@ -68,10 +68,10 @@ fn answer(g: GuestSession, bytes: &[u8], reply: &mut [u8]) -> GuestTurn {
 
 // The guest receives a message and answers it.
 fn guest_turn(g: GuestSession, wire: &[u8], stage: &mut [u8], reply: &mut [u8]) -> GuestTurn {
-    let received = g.receive(wire, stage);
+    let received = guest_receive::receive(g, wire, stage);
     let active = received.session;
     let place = received.place;
-    let bytes = guest::guest::payload(wire, stage, place, received.length);
+    let bytes = guest_receive::payload(wire, stage, place, received.length);
     answer(active, bytes, reply)
 }
 
@@ -98,7 +98,7 @@ fn relay_data(
     stage: &mut [u8],
     wire: &mut [u8],
 ) -> RelayTurn {
-    let data = p.push(reply, stage);
+    let data = parser_push::push(p, reply, stage);
     let record = data.record;
     let place = data.place;
     let parser = data.parser;
@@ -120,7 +120,7 @@ fn relay_turn(
 ) -> RelayTurn {
     let data = relay_data(p, sequence, reply, stage, wire);
     let waiting = data.parser;
-    let credit = waiting.push(cut(reply, data.consumed, reply.len()), stage);
+    let credit = parser_push::push(waiting, cut(reply, data.consumed, reply.len()), stage);
     let parser = credit.parser;
     RelayTurn {
         parser,
@@ -131,10 +131,10 @@ fn relay_turn(
 
 // The host receives the echo.
 fn host_turn(h: HostSession, wire: &[u8], stage: &mut [u8], sums: Sums, whole: bool) -> HostTurn {
-    let received = h.receive(wire, stage);
+    let received = host_receive::receive(h, wire, stage);
     let place = received.place;
     let host = received.session;
-    let echo = host::host::payload(wire, stage, place, received.length);
+    let echo = host_receive::payload(wire, stage, place, received.length);
     HostTurn {
         host,
         sums: add_payload(sums, echo, whole),
@@ -150,7 +150,7 @@ fn there(
     wire: &mut [u8],
     reply: &mut [u8],
 ) -> Answered {
-    let sent = h.send(message, wire, 0);
+    let sent = host_calls::send(h, message, wire, 0);
     let host = sent.session;
     let turn = guest_turn(g, cut(wire, 0, sent.next), stage, reply);
     let guest = turn.guest;

@@ -1,7 +1,7 @@
 // Sessions at the point where DATA flows, and the parser of a relay between them.
+use codec::encode_record;
 use guest::guest::GuestSession;
 use host::host::HostSession;
-use record::record::encode_record;
 use types::RecordType;
 use wire::Epoch;
 use wire::Sequence;
@@ -49,12 +49,12 @@ fn opening(record_type: RecordType) -> [u8; 44] {
 // A guest that has attached, got a RESET of sequence 0 and acknowledged it.
 pub(crate) fn active_guest(stage: &mut [u8]) -> GuestSession {
     let mut output = [0u8; 48];
-    let attached = GuestSession::new().attach(&mut output, 0);
+    let attached = guest_calls::attach(GuestSession::new(), &mut output, 0);
     let attaching = attached.session;
     let reset = opening(RecordType::Reset);
-    let received = attaching.receive(&reset, stage);
+    let received = guest_receive::receive(attaching, &reset, stage);
     let resetting = received.session;
-    let acknowledged = resetting.acknowledge(WINDOW, &mut output, 0);
+    let acknowledged = guest_calls::acknowledge(resetting, WINDOW, &mut output, 0);
     acknowledged.session
 }
 
@@ -62,11 +62,11 @@ pub(crate) fn active_guest(stage: &mut [u8]) -> GuestSession {
 // the sequence that the guest expects.
 pub(crate) fn attached_host(stage: &mut [u8]) -> HostSession {
     let mut output = [0u8; 76];
-    let attached = HostSession::new().attach([7u8; 32], &mut output, 0);
+    let attached = host_calls::attach(HostSession::new(), [7u8; 32], &mut output, 0);
     let attaching = attached.session;
     let ready = opening(RecordType::Ready);
-    let received = attaching.receive(&ready, stage);
+    let received = host_receive::receive(attaching, &ready, stage);
     let host = received.session;
-    let sent = host.send(b"0", &mut output, 0);
+    let sent = host_calls::send(host, b"0", &mut output, 0);
     sent.session
 }

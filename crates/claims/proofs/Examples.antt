@@ -12,8 +12,8 @@ use Rattle.record.specs.Record.{allZero, payloadChecks, headerChecks, recordWit
 use Rattle.parser.specs.Push.{countsOk, errorOk, soundParser, finish, pushBody, headWith, pushHead, push, neededOf, counted}
 use Rattle.session.specs.Checks.{same, identityOk, holds}
 use Rattle.guest.specs.State.{soundGuest}
-use Rattle.guest.specs.Receive.{acceptReset, acceptData, accept, afterPush, receive}
-use Rattle.guest.specs.Calls.{writes, attach, acknowledge, send, credit}
+use Rattle.guest_receive.specs.Receive.{acceptReset, acceptData, accept, afterPush, receive}
+use Rattle.guest_calls.specs.Calls.{writes, attach, acknowledge, send, credit}
 use Rattle.claims.specs.Examples.{MarkedExamples}
 
 pub marked : MarkedExamples

@@ -18,13 +18,14 @@ use Rattle.parser.specs.Push.{Push, push, pushStage, headWith, heldIn, buffered
 use Rattle.parser.specs.declared.parser.Place.the-variants.{Piece}
 use Rattle.session.specs.Checks.{noIdentity, identityOf}
 use Rattle.guest.specs.State.{isDetached, isResetting, isActive, isOpen, isEnded, soundGuest, withState, resetGuest, dataGuest, ackGuest, sentGuest}
-use Rattle.guest.specs.Receive as R
-use Rattle.guest.specs.Calls as C
+use Rattle.guest_receive.specs.Receive as R
+use Rattle.guest_calls.specs.Calls as C
+use Rattle.guest.specs.Asks as A
 use Rattle.guest.specs.declared.guest.GuestState.the-variants as State
-use Rattle.guest.specs.declared.guest.GuestEvent.the-variants as Event
+use Rattle.guest_receive.specs.declared.GuestEvent.the-variants as Event
 use Rattle.guest.specs.declared.guest.GuestSession.{GuestSession}
-use Rattle.guest.specs.declared.guest.Received.{Received}
-use Rattle.guest.specs.declared.guest.Closed.{Closed}
+use Rattle.guest_receive.specs.declared.Received.{Received}
+use Rattle.guest_calls.specs.declared.Closed.{Closed}
 use Rattle.guest.specs.declared.guest.WindowAnswer.{WindowAnswer}
 use Rattle.claims.specs.Reading.{heldBytes, Ready, Staged}
 use Rattle.claims.specs.GuestCalls.{Lent, Writing, attach, acknowledge, send, credit, Call, receive, write, disconnect, ask}
@@ -229,7 +230,7 @@ module _ (e : Endpoint) (invariant : Invariant (e .session)) where
       (λ c. true-not-false (sym sound ∙ c))
 
   ask-answers : (q : Ask) → toldRefusal (tell g q) ≡ none
-  unfolding C.stateOf C.identityOf C.windowOf C.outstandingOf C.neededBy
+  unfolding A.stateOf A.identityOf A.windowOf A.outstandingOf A.neededBy
   ask-answers askState = rw sound
   ask-answers askIdentity = rw sound
   ask-answers askWindow = rw sound (picked (λ (a : WindowAnswer). a .refusal ≡ none) (isActive (g .state)) (λ _. refl) (λ _. refl))

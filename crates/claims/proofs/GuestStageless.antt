@@ -18,10 +18,10 @@ use Rattle.wire.proofs.Rows.{passed, picked}
 use Rattle.parser.specs.Push.{heldIn, payloadAt, bufferedOf}
 use Rattle.session.specs.Checks.{nextRow}
 use Rattle.guest.specs.State.{isDetached, isResetting, isActive, isEnded, soundGuest}
-use Rattle.guest.specs.Receive as R
-use Rattle.guest.specs.Calls as C
+use Rattle.guest_receive.specs.Receive as R
+use Rattle.guest_calls.specs.Calls as C
 use Rattle.guest.specs.declared.guest.GuestSession.{GuestSession}
-use Rattle.guest.specs.declared.guest.Closed.{Closed}
+use Rattle.guest_calls.specs.declared.Closed.{Closed}
 use Rattle.claims.specs.GuestCalls.{own, other, Writing, attach, acknowledge, send, credit, Call, receive, write, disconnect, ask}
 use Rattle.claims.specs.GuestCalls.{Answer, sent, closed, told, receivedAs, Endpoint, endpoint, Step, ruleOf, tell, writeStep, step}
 use Rattle.claims.specs.GuestHistory.{trace, OwnOrShorter, AllOwnOrShorter}

@@ -12,7 +12,7 @@ use Rattle.wire.specs.declared.refusal.Refusal.{Refusal}
 use Rattle.wire.proofs.Rows.{passed, picked}
 use Rattle.types.specs.Types.{codeOf}
 use Rattle.parser.specs.Push.{Push, push, pushStage, heldIn, payloadAt}
-use Rattle.guest.specs.Receive as R
+use Rattle.guest_receive.specs.Receive as R
 use Rattle.guest.specs.declared.guest.GuestSession.{GuestSession}
 use Rattle.claims.specs.Reading.{Staged}
 use Rattle.claims.specs.GuestCalls.{own, other, Call, Endpoint, Step, step}

@@ -22,10 +22,11 @@ use Rattle.parser.specs.declared.parser.RecordParser.{RecordParser}
 use Rattle.parser.specs.declared.parser.Place.{Place}
 use Rattle.session.specs.declared.session.Identity.{Identity}
 use Rattle.host.specs.State.{isBegun, soundHost}
-use Rattle.host.specs.Receive as Receive
-use Rattle.host.specs.Calls as Calls
+use Rattle.host_receive.specs.Receive as Receive
+use Rattle.host.specs.Asks as Asks
+use Rattle.host_calls.specs.Calls as Calls
 use Rattle.host.specs.declared.host.HostSession.{HostSession}
-use Rattle.host.specs.declared.host.Closed.{Closed}
+use Rattle.host_calls.specs.declared.Closed.{Closed}
 use Rattle.claims.specs.HostCalls.{HostCall, attach, receive, receiveShort, send, disconnect, askState, askIdentity, askNeeded, refusalOf, step, reply, after, freshPlace}
 use Rattle.claims.proofs.ParserSound.{header-low, payload-low}
 use Rattle.claims.proofs.HostSound.{fit-reached, always-sound}
@@ -137,7 +138,7 @@ module _ (h : HostSession) (sound : soundHost h ≡ true) where
   writes-not r a n bytes o at e = picked (λ (x : Calls.Outcome). Not (x .sent .refusal)) (passes r) (λ _. refl) (λ _. e)
 
   step-not : (stage : List ℕ) (c : HostCall) → soundParser (h .parser) ≡ true → Not (refusalOf (step h stage c .reply .answer))
-  unfolding step Calls.attach Calls.send Calls.disconnect Calls.stateOf Calls.identityOf Calls.neededBy Receive.receiveOf
+  unfolding step Calls.attach Calls.send Calls.disconnect Asks.stateOf Asks.identityOf Asks.neededBy Receive.receiveOf
   step-not stage (attach capability l output at) s = writes-not _ _ _ _ _ _ (held-first (soundHost h) _ _ sound (refl, (refl, tt)))
   step-not stage (receive piece) s = receive-not (length stage) (heldIn (h .parser) stage) piece s
   step-not stage (receiveShort piece lent l) s = receive-not (length lent) (heldIn (h .parser) lent) piece s

@@ -16,10 +16,10 @@ use Rattle.record.specs.declared.record.Record.{Record}
 use Rattle.parser.specs.Push.{soundParser, countsOk, errorOk, Push, push, heldIn, bufferedOf}
 use Rattle.session.specs.Checks.{holds, sequenceRow, nextRow}
 use Rattle.host.specs.State.{isAttached, isBegun, soundHost}
-use Rattle.host.specs.Receive.{Receive, allowed, typeRows, recordRows, effect, accept, afterPush, receiveRows, receive, receiveOf}
-use Rattle.host.specs.Calls as Calls
+use Rattle.host_receive.specs.Receive.{Receive, allowed, typeRows, recordRows, effect, accept, afterPush, receiveRows, receive, receiveOf}
+use Rattle.host_calls.specs.Calls as Calls
 use Rattle.host.specs.declared.host.HostSession.{HostSession}
-use Rattle.host.specs.declared.host.Closed.{Closed}
+use Rattle.host_calls.specs.declared.Closed.{Closed}
 use Rattle.claims.specs.HostCalls.{HostCall, attach, receiveShort, send, disconnect, askState, askIdentity, askNeeded, HostPlace, step, next, after, freshPlace}
 use Rattle.claims.specs.HostCalls as Call
 use Rattle.claims.proofs.Outcomes.{true-not-false}

@@ -10,13 +10,14 @@ use Rattle.parser.specs.declared.parser.Place.{Place}
 use Rattle.parser.specs.declared.parser.Count.{Count}
 use Rattle.session.specs.declared.session.Identity.{Identity}
 use Rattle.guest.specs.State.{freshGuest}
-use Rattle.guest.specs.Receive as Receive
-use Rattle.guest.specs.Calls as Calls
-use Rattle.guest.specs.declared.guest.GuestEvent.{GuestEvent}
-use Rattle.guest.specs.declared.guest.GuestEvent.the-variants as Event
+use Rattle.guest_receive.specs.Receive as Receive
+use Rattle.guest_calls.specs.Calls as Calls
+use Rattle.guest.specs.Asks as Asks
+use Rattle.guest_receive.specs.declared.GuestEvent.{GuestEvent}
+use Rattle.guest_receive.specs.declared.GuestEvent.the-variants as Event
 use Rattle.guest.specs.declared.guest.GuestSession.{GuestSession}
-use Rattle.guest.specs.declared.guest.Received.{Received}
-use Rattle.guest.specs.declared.guest.Closed.{Closed}
+use Rattle.guest_receive.specs.declared.Received.{Received}
+use Rattle.guest_calls.specs.declared.Closed.{Closed}
 use Rattle.guest.specs.declared.guest.StateAnswer.{StateAnswer}
 use Rattle.guest.specs.declared.guest.IdentityAnswer.{IdentityAnswer}
 use Rattle.guest.specs.declared.guest.WindowAnswer.{WindowAnswer}
@@ -125,11 +126,11 @@ ruleOf (send bytes) g o at = Calls.send g bytes o at
 ruleOf (credit n) g o at = Calls.credit g n o at
 
 abbrev pub tell : GuestSession → Ask → Told
-tell g askState = state (Calls.stateOf g)
-tell g askIdentity = identity (Calls.identityOf g)
-tell g askWindow = window (Calls.windowOf g)
-tell g askOutstanding = outstanding (Calls.outstandingOf g)
-tell g askNeeded = needed (Calls.neededBy g)
+tell g askState = state (Asks.stateOf g)
+tell g askIdentity = identity (Asks.identityOf g)
+tell g askWindow = window (Asks.windowOf g)
+tell g askOutstanding = outstanding (Asks.outstandingOf g)
+tell g askNeeded = needed (Asks.neededBy g)
 
 -- a receive's answer with a payload
 abbrev pub receivedAs : Received → List ℕ → Answer

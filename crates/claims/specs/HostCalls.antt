@@ -12,9 +12,10 @@ use Rattle.parser.specs.declared.parser.Place.{Place}
 use Rattle.parser.specs.declared.parser.Count.{Count}
 use Rattle.session.specs.declared.session.Identity.{Identity}
 use Rattle.host.specs.State.{freshHost, soundHost}
-use Rattle.host.specs.Receive as Receive
-use Rattle.host.specs.Calls as Calls
-use Rattle.host.specs.declared.host.HostEvent.{HostEvent}
+use Rattle.host_receive.specs.Receive as Receive
+use Rattle.host.specs.Asks as Asks
+use Rattle.host_calls.specs.Calls as Calls
+use Rattle.host_receive.specs.declared.HostEvent.{HostEvent}
 use Rattle.host.specs.declared.host.HostSession.{HostSession}
 use Rattle.host.specs.declared.host.StateAnswer.{StateAnswer}
 use Rattle.host.specs.declared.host.IdentityAnswer.{IdentityAnswer}
@@ -84,9 +85,9 @@ step h stage (receive piece) = receiving piece (Receive.receiveOf h piece stage)
 step h stage (receiveShort piece lent l) = receiving piece (Receive.receiveOf h piece lent) stage
 step h stage (send bytes output at) = sending stage at (Calls.send h bytes output at)
 step h stage disconnect = replied (closed (Calls.disconnect h .refusal)) [] [] (placed (Calls.disconnect h .session) stage)
-step h stage askState = replied (toldState (Calls.stateOf h)) [] [] (placed h stage)
-step h stage askIdentity = replied (toldIdentity (Calls.identityOf h)) [] [] (placed h stage)
-step h stage askNeeded = replied (toldNeeded (Calls.neededBy h)) [] [] (placed h stage)
+step h stage askState = replied (toldState (Asks.stateOf h)) [] [] (placed h stage)
+step h stage askIdentity = replied (toldIdentity (Asks.identityOf h)) [] [] (placed h stage)
+step h stage askNeeded = replied (toldNeeded (Asks.neededBy h)) [] [] (placed h stage)
 
 abbrev pub reply : HostPlace → HostCall → HostReply
 reply p c = step (p .host) (p .stage) c .reply

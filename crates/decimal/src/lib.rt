@@ -1,5 +1,5 @@
 // A number in decimal, put into a lent buffer at a place.
-use wire::bytes::copy_at;
+use copying::copy_at;
 ghost use mathlib.Core.Path.{_≡_};
 ghost use Prim.Native.Nat.{_+_, _≤_};
 ghost use lib.ListN.{length};

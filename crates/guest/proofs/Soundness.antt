@@ -1,24 +1,15 @@
 -- The cases of the soundness test, a law for each `return` of the code, and what a sound session tells. Assumes nothing.
 use Prim.Native.Nat.{ℕ, _≤_, _<_}
-use mathlib.Core.Path.{_≡_, refl, sym, ap, _∙_}
-use mathlib.Core.Bool.{Bool, true, false, not, _&&_, _||_, and-false}
-use native.Mathlib.Omega.{arith}
+use mathlib.Core.Path.{_≡_, sym, ap, _∙_}
+use mathlib.Core.Bool.{Bool, true, false, not, _&&_, _||_}
 use lib.Dec.{eqb, leb}
 use borrow.Author.Tests.{le-leb, lt-leb, eq-eqb, ne-eqb, leb-true, not-true, not-false}
 use Rattle.wire.proofs.Rows.{and-left, and-right}
 use Rattle.parser.specs.Push.{soundParser}
 use Rattle.session.specs.Checks.{holds}
 use Rattle.session.specs.declared.session.OptionalIdentity.{OptionalIdentity}
-use Rattle.guest.specs.State.{code, isActive, soundGuest, figuresOk}
+use Rattle.guest.specs.State.{code, soundGuest, figuresOk}
 use Rattle.guest.specs.declared.guest.GuestSession.{GuestSession}
-
-pub open-low : (s : ℕ) → s < 1 → false ≡ leb 1 s && leb s 3
-open-low s h = simp (lt-leb 1 s h)
-
-pub open-high : (s : ℕ) → 1 ≤ s → leb s 3 ≡ leb 1 s && leb s 3
-open-high s h = simp (le-leb 1 s h)
-
-pub ruleset opening = (open-low, open-high)
 
 module _ (s : ℕ) (i : OptionalIdentity) where
   pub need-low : s < 2 → true ≡ not (leb 2 s && leb s 3) || holds i

@@ -49,13 +49,13 @@ isEnded s = leb 4 (code s)
 abbrev pub freshGuest : GuestSession
 freshGuest =
     record {
-      state = State.Detached;
       parser = fresh;
       identity = record { present = false; identity = noIdentity };
       «receive_sequence» = record { 0 = 0 };
       «send_sequence» = record { 0 = 0 };
       window = 0;
       outstanding = 0;
+      state = State.Detached;
     }
 
 -- outstanding ≤ window ≤ 4,194,314, the window is 0 in Resetting, and Resetting and Active hold an identity
@@ -73,26 +73,26 @@ soundGuest g = soundParser (g .parser) && figuresOk (code (g .state)) (g .window
 abbrev pub withState : GuestSession → GuestState → RecordParser → GuestSession
 withState g s p =
     record {
-      state = s;
       parser = p;
       identity = g .identity;
       «receive_sequence» = g .«receive_sequence»;
       «send_sequence» = g .«send_sequence»;
       window = g .window;
       outstanding = g .outstanding;
+      state = s;
     }
 
 -- an accepted RESET: its identity, the next sequence due one more, send sequence, window and outstanding 0, state Resetting
 abbrev pub resetSession : RecordParser → Identity → ℕ → GuestSession
 resetSession p i sequence =
     record {
-      state = State.Resetting;
       parser = p;
       identity = record { present = true; identity = i };
       «receive_sequence» = record { 0 = sequence + 1 };
       «send_sequence» = record { 0 = 0 };
       window = 0;
       outstanding = 0;
+      state = State.Resetting;
     }
 
 abbrev pub resetGuest : RecordParser → Record → GuestSession
@@ -102,39 +102,39 @@ resetGuest p r = resetSession p (identityOf r) (r .sequence .0)
 abbrev pub dataGuest : GuestSession → RecordParser → ℕ → GuestSession
 dataGuest g p n =
     record {
-      state = g .state;
       parser = p;
       identity = g .identity;
       «receive_sequence» = record { 0 = g .«receive_sequence» .0 + 1 };
       «send_sequence» = g .«send_sequence»;
       window = g .window;
       outstanding = g .outstanding + n;
+      state = g .state;
     }
 
 -- an acknowledge: send sequence 1, outstanding 0, the window set, state Active
 abbrev pub ackGuest : GuestSession → ℕ → GuestSession
 ackGuest g w =
     record {
-      state = State.Active;
       parser = g .parser;
       identity = g .identity;
       «receive_sequence» = g .«receive_sequence»;
       «send_sequence» = record { 0 = 1 };
       window = w;
       outstanding = 0;
+      state = State.Active;
     }
 
 -- another send sequence, and what is outstanding then
 abbrev pub withSent : GuestSession → ℕ → ℕ → GuestSession
 withSent g sequence n =
     record {
-      state = g .state;
       parser = g .parser;
       identity = g .identity;
       «receive_sequence» = g .«receive_sequence»;
       «send_sequence» = record { 0 = sequence };
       window = g .window;
       outstanding = n;
+      state = g .state;
     }
 
 -- a record sent: the send sequence one more

@@ -2,20 +2,23 @@
 // the caller's session"). Each passes a copy of the session to the operation by value and stores
 // the session of its answer back. The functions by value over them are for callers that hold the
 // session themselves.
-use guest::guest::GuestEvent;
 use guest::guest::GuestSession;
-use guest::guest::Received;
-use guest::guest::Sent;
+use guest_calls::Sent;
+use guest_calls::credit;
+use guest_receive::GuestEvent;
+use guest_receive::Received;
+use guest_receive::receive;
 use parser::parser::Place;
 use session::session::Identity;
 use wire::refusal::Refusal;
 ghost use mathlib.Core.Path.{_≡_};
-ghost use Rattle.guest.specs.Receive.{receiveOf};
-ghost use Rattle.guest.specs.Receive as receiving;
-ghost use Rattle.guest.specs.Calls.{outcome, credit};
+ghost use Rattle.guest_receive.specs.Receive.{receiveOf};
+ghost use Rattle.guest_receive.specs.Receive as receiving;
+ghost use Rattle.guest_calls.specs.Calls.{outcome, credit};
 ghost use Rattle.guest_entry.specs.Answers.{receiveAnswer, creditAnswer};
 
-// What a receive answers beside the session. The bytes of data are had by the guest's `payload`.
+// What a receive answers beside the session. The bytes of data are had by `payload` of
+// guest_receive.
 pub struct ReceiveAnswer {
     pub refusal: Refusal,
     pub consumed: usize,
@@ -39,7 +42,7 @@ pub fn receive_in(session: &mut GuestSession, piece: &[u8], stage: &mut [u8]) ->
     ensures { λ _. ⌜ now (stage .exit) ≡ receiveOf (now (session .entry)) (now (piece .entry)) (now (stage .entry)) .stage ⌝ }
 {
     let before = *session;
-    let done = before.receive(piece, stage);
+    let done = receive(before, piece, stage);
     *session = done.session;
     ReceiveAnswer {
         refusal: done.refusal,
@@ -63,7 +66,7 @@ pub fn credit_in(
     ensures { λ _. ⌜ now (output .exit) ≡ credit (now (session .entry)) bytes (now (output .entry)) at .output ⌝ }
 {
     let before = *session;
-    let done = before.credit(bytes, output, at);
+    let done = credit(before, bytes, output, at);
     *session = done.session;
     CreditAnswer {
         refusal: done.refusal,

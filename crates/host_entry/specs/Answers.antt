@@ -1,5 +1,5 @@
 -- What the entry answers: all of the by-value operation's answer but the session, which is the caller's at exit.
-use Rattle.host.specs.declared.host.Received.{Received}
+use Rattle.host_receive.specs.declared.Received.{Received}
 use Rattle.host_entry.specs.declared.ReceiveAnswer.{ReceiveAnswer}
 
 abbrev pub receiveAnswer : Received → ReceiveAnswer

@@ -2,14 +2,15 @@
 // the caller's session"). It passes a copy of the session to the operation by value and stores the
 // session of its answer back. The function by value over it is for callers that hold the session
 // themselves.
-use host::host::HostEvent;
 use host::host::HostSession;
-use host::host::Received;
+use host_receive::HostEvent;
+use host_receive::Received;
+use host_receive::receive;
 use parser::parser::Place;
 use session::session::Identity;
 use wire::refusal::Refusal;
 ghost use mathlib.Core.Path.{_≡_};
-ghost use Rattle.host.specs.Receive.{outcome, receiveOf};
+ghost use Rattle.host_receive.specs.Receive.{outcome, receiveOf};
 ghost use Rattle.host_entry.specs.Answers.{receiveAnswer};
 
 // What a receive answers beside the session. The bytes of data are had by the host's `payload`.
@@ -29,7 +30,7 @@ pub fn receive_in(session: &mut HostSession, piece: &[u8], stage: &mut [u8]) -> 
     ensures { λ _. ⌜ now (stage .exit) ≡ receiveOf (now (session .entry)) (now (piece .entry)) (now (stage .entry)) .stage ⌝ }
 {
     let before = *session;
-    let done = before.receive(piece, stage);
+    let done = receive(before, piece, stage);
     *session = done.session;
     ReceiveAnswer {
         refusal: done.refusal,

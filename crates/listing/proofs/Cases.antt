@@ -1,13 +1,13 @@
 -- The cases of the listing's rules, a law for each `return` of the code: what was tested there, and what is answered. Assumes nothing.
 use Prim.Native.Nat.{ℕ, _+_, _-_, _^_, _≤_, _<_}
 use mathlib.Core.Path.{_≡_, sym, ap, _∙_}
-use mathlib.Core.Bool.{Bool, true, false, _&&_}
+use mathlib.Core.Bool.{Bool, true, false, not, _&&_}
 use mathlib.Core.List.{List}
 use native.Mathlib.Omega.{arith}
 use native.Mathlib.Decide.{decLe}
 use lib.ListN.{length}
-use lib.Dec.{eqb, leb}
-use borrow.Author.Tests.{le-leb, lt-leb, leb-true, eq-eqb, ne-eqb}
+use lib.Dec.{leb}
+use borrow.Author.Tests.{le-leb, lt-leb, leb-true, eq-eqb, ne-eqb, not-true, not-false}
 use Rattle.wire.specs.Bytes.{overlay}
 use Rattle.wire.specs.Refusals.{pick, refusal, none, passes}
 use Rattle.protocol.specs.Outer.{valueOf}
@@ -20,9 +20,11 @@ use Rattle.parser.specs.declared.parser.Count.{Count}
 use Rattle.parser.specs.declared.parser.Pushed.{Pushed}
 use Rattle.decimal.specs.Decimal.{Puts}
 use Rattle.listing.specs.Listing.{line, openAfter, limit}
+use Rattle.listing.specs.Reach.{addsUp, refusedBytes}
 use Rattle.listing.specs.Steps.{listingOf, readOf, soundListing, listed, Outcome, outcome, opens, lineOf, recordListed, pushed, stepOf}
 use Rattle.listing.specs.declared.listing.Listing.{Listing}
 use Rattle.listing.specs.declared.listing.Listed.{Listed}
+use Rattle.listing.proofs.Sums.{keeps, adds-low}
 use Rattle.listing.proofs.Counts.{Came, came}
 
 -- ---- soundness
@@ -43,30 +45,24 @@ module _ (s : Listing) (c : Count) (e : c ≡ counted (s .parser) (bufferedOf (s
       (λ _ q. let z : 23 ≡ 0 = sym (ap (λ (x : Count). x .refusal .number) q) ∙ h in absurd (omega arith))
       e
 
+  abbrev after : Bool
+  after = leb (readOf s + refusedBytes (s .parser .error .number)) limit && addsUp (s .offset) (s .«open»)
+
   pub sound-not : (c .refusal .number ≡ 0 → ⊥) → false ≡ soundListing s
   unfolding soundListing
-  sound-not h = sym (ap (λ (t : Bool). t && (leb (s .«open») (s .offset) && leb (readOf s) limit)) (counted-not h))
+  sound-not h = sym (ap (λ (t : Bool). t && after) (counted-not h))
 
-  module _ (h : c .refusal .number ≡ 0) where
-    pub sound-open : s .offset < s .«open» → false ≡ soundListing s
-    unfolding soundListing
-    sound-open l =
-        sym ((λ j. counted-sound h .0 j && (lt-leb (s .«open») (s .offset) l j && leb (readOf s) limit)))
+  module _ (h : c .refusal .number ≡ 0) (k : ℕ) (f : k ≡ refusedBytes (s .parser .error .number)) (b : Bool) (q : b ≡ leb (s .offset + c .count + k) limit) where
+    limit-told : b ≡ leb (readOf s + refusedBytes (s .parser .error .number)) limit
+    limit-told = q ∙ (λ j. leb (s .offset + counted-sound h .1 j + f j) limit)
 
-    pub sound-far : s .«open» ≤ s .offset → limit < s .offset → false ≡ soundListing s
+    pub sound-far : not b ≡ true → false ≡ soundListing s
     unfolding soundListing
-    sound-far l f = sym (λ j. counted-sound h .0 j && (le-leb (s .«open») (s .offset) l j && lt-leb (readOf s) limit (omega arith) j))
+    sound-far n = sym (λ j. counted-sound h .0 j && ((sym limit-told ∙ not-true b n) j && addsUp (s .offset) (s .«open»)))
 
-    pub sound-read : s .«open» ≤ s .offset → s .offset ≤ limit → leb (c .count) (limit - s .offset) ≡ soundListing s
+    pub sound-sums : (r : Bool) → not b ≡ false → r ≡ addsUp (s .offset) (s .«open») → r ≡ soundListing s
     unfolding soundListing
-    sound-read l f =
-        let k = counted-sound h .1 in
-        go (decLe (readOf s) limit)
-        ∙ sym (λ j. counted-sound h .0 j && (le-leb (s .«open») (s .offset) l j && leb (readOf s) limit))
-      where
-        go : Dec (readOf s ≤ limit) → leb (c .count) (limit - s .offset) ≡ leb (readOf s) limit
-        go (yes z) = le-leb (c .count) (limit - s .offset) (omega (arith, counted-sound h .1)) ∙ sym (le-leb (readOf s) limit z)
-        go (no z) = lt-leb (c .count) (limit - s .offset) (omega (arith, counted-sound h .1)) ∙ sym (lt-leb (readOf s) limit (omega arith))
+    sound-sums r n e = e ∙ sym (λ j. counted-sound h .0 j && ((sym limit-told ∙ not-false b n) j && addsUp (s .offset) (s .«open»)))
 
   -- of a sound listing the parser is, so that its count is the bytes that it holds
   pub count-is : soundListing s ≡ true → c .count ≡ bufferedOf (s .parser)
@@ -74,28 +70,63 @@ module _ (s : Listing) (c : Count) (e : c ≡ counted (s .parser) (bufferedOf (s
   count-is t =
       ap (λ (x : Count). x .count)
       (e ∙ ap (λ (b : Bool). pick b (record { refusal = none; count = bufferedOf (s .parser) }) (record { refusal = refusal 23 0 0 0; count = 0 }))
-      (and-left (soundParser (s .parser)) (leb (s .«open») (s .offset) && leb (readOf s) limit) t))
+      (and-left (soundParser (s .parser)) after t))
 
-pub ruleset soundness = (sound-not, sound-open, sound-far, sound-read)
+pub ruleset soundness = (sound-not, sound-far, sound-sums)
+
+-- ---- the limit
+module _ (a b c : ℕ) where
+  pub limit-first : limit < a → false ≡ leb (a + b + c) limit
+  limit-first l = sym (lt-leb (a + b + c) limit (omega arith))
+
+  module _ (h : a ≤ limit) where
+    pub limit-held : limit - a < b → false ≡ leb (a + b + c) limit
+    limit-held l = sym (lt-leb (a + b + c) limit (omega arith))
+
+    pub limit-rest : b ≤ limit - a → leb c (limit - a - b) ≡ leb (a + b + c) limit
+    limit-rest l = go (decLe c (limit - a - b))
+      where
+        go : Dec (c ≤ limit - a - b) → leb c (limit - a - b) ≡ leb (a + b + c) limit
+        go (yes z) = le-leb c (limit - a - b) z ∙ sym (le-leb (a + b + c) limit (omega arith))
+        go (no z) = lt-leb c (limit - a - b) (omega arith) ∙ sym (lt-leb (a + b + c) limit (omega arith))
+
+  -- within the limit, so is the first
+  pub limit-low : (t : Bool) → t ≡ leb (a + b + c) limit → not t ≡ false → a ≤ limit
+  limit-low t e n = omega (arith, leb-true (a + b + c) limit (sym e ∙ not-false t n))
+
+pub ruleset limits = (limit-first, limit-held, limit-rest)
 
 pub record Facts (s : Listing) : Type 0 where
   pub parser : soundParser (s .parser) ≡ true
+  pub sums : addsUp (s .offset) (s .«open») ≡ true
   pub «open» : s .«open» ≤ s .offset
   pub read : readOf s ≤ limit
+  pub all : readOf s + refusedBytes (s .parser .error .number) ≤ limit
 
-pub facts : (s : Listing) → soundListing s ≡ true → Facts s
-unfolding soundListing
-facts s t =
-    let q : leb (s .«open») (s .offset) && leb (readOf s) limit ≡ true = and-right (soundParser (s .parser)) (leb (s .«open») (s .offset) && leb (readOf s) limit) t in
-    record {
-      parser = and-left (soundParser (s .parser)) (leb (s .«open») (s .offset) && leb (readOf s) limit) t;
-      «open» = leb-true (s .«open») (s .offset) (and-left (leb (s .«open») (s .offset)) (leb (readOf s) limit) q);
-      read = leb-true (readOf s) limit (and-right (leb (s .«open») (s .offset)) (leb (readOf s) limit) q);
-    }
+module _ (s : Listing) where
+  abbrev few : Bool
+  few = leb (readOf s + refusedBytes (s .parser .error .number)) limit
 
-from-facts : (s : Listing) → Facts s → soundListing s ≡ true
-unfolding soundListing
-from-facts s f = λ j. f .parser j && (le-leb (s .«open») (s .offset) (f .«open») j && le-leb (readOf s) limit (f .read) j)
+  pub facts : soundListing s ≡ true → Facts s
+  unfolding soundListing
+  facts t =
+      let q : few && addsUp (s .offset) (s .«open») ≡ true = and-right (soundParser (s .parser)) (few && addsUp (s .offset) (s .«open»)) t in
+      let l : readOf s + refusedBytes (s .parser .error .number) ≤ limit =
+      leb-true (readOf s + refusedBytes (s .parser .error .number)) limit (and-left few (addsUp (s .offset) (s .«open»)) q)
+      in
+      let e : addsUp (s .offset) (s .«open») ≡ true = and-right few (addsUp (s .offset) (s .«open»)) q in
+      record {
+        parser = and-left (soundParser (s .parser)) (few && addsUp (s .offset) (s .«open»)) t;
+        sums = e;
+        «open» = omega (arith, adds-low (s .offset) (s .«open») e);
+        read = omega arith;
+        all = l;
+      }
+
+  pub from-facts : soundParser (s .parser) ≡ true → addsUp (s .offset) (s .«open») ≡ true → readOf s + refusedBytes (s .parser .error .number) ≤ limit
+      → soundListing s ≡ true
+  unfolding soundListing
+  from-facts p e l = λ j. p j && (le-leb (readOf s + refusedBytes (s .parser .error .number)) limit l j && e j)
 
 -- ---- open
 module _ (o code size : ℕ) (payload : List ℕ) where
@@ -116,13 +147,6 @@ module _ (o code size : ℕ) (payload : List ℕ) where
       pub opens-other : (code ≡ 9 → ⊥) → o ≡ openAfter o code size payload
       unfolding openAfter
       opens-other k = simp (ne-eqb code 3 n, ne-eqb code 5 m, ne-eqb code 9 k)
-
-  opens-low : openAfter o code size payload ≤ o + size
-  unfolding openAfter
-  opens-low =
-      picked (λ (x : ℕ). x ≤ o + size) (eqb code 3) (λ _. omega arith)
-      (λ _. picked (λ (x : ℕ). x ≤ o + size) (eqb code 5) (λ _. omega arith)
-      (λ _. picked (λ (x : ℕ). x ≤ o + size) (eqb code 9) (λ _. omega arith) (λ _. omega arith)))
 
 pub ruleset opening = (opens-reset, opens-data, opens-credit, opens-other)
 
@@ -174,7 +198,7 @@ module _ (s : Listing) (piece stage output : List ℕ) (at : ℕ) (a : Pushed) (
       → (s .«open» ≤ s .offset) × (s .offset + (44 + a .«record» .length) < 2 ^ 64)
   step-fits t l c =
       let f = facts s t in
-      let k : Came (bufferedOf (s .parser)) (length piece) a = rw pushed-is at (came (s .parser) (length stage) (heldIn (s .parser) stage) piece (f .parser)) in
+      let k : Came (bufferedOf (s .parser)) (refusedBytes (s .parser .error .number)) (length piece) a = rw pushed-is at (came (s .parser) (length stage) (heldIn (s .parser) stage) piece (f .parser)) in
       (f .«open», omega (arith, k .whole c, k .within))
 
 -- what one push does with the counts of a sound listing, lent no more bytes than may be read
@@ -191,7 +215,7 @@ module _ (s : Listing) (piece stage output : List ℕ) (at : ℕ) (t : soundList
   abbrev y : List ℕ
   y = payloadAt (a .place) (a .«record» .length) piece (pushOf (s .parser) piece stage .stage)
 
-  k : Came (bufferedOf (s .parser)) (length piece) a
+  k : Came (bufferedOf (s .parser)) (refusedBytes (s .parser .error .number)) (length piece) a
   k = came (s .parser) (length stage) (heldIn (s .parser) stage) piece (facts s t .parser)
 
   pub stepped : Stepped s (length piece) (stepOf s piece stage output at .listed)
@@ -202,11 +226,11 @@ module _ (s : Listing) (piece stage output : List ℕ) (at : ℕ) (t : soundList
       picked (λ (o : Outcome). Stepped s (length piece) (o .listed)) (a .complete)
       (λ c.
       let w : bufferedOf (s .parser) + a .consumed ≡ 44 + a .«record» .length = b .whole c in
-      let z : bufferedOf (a .parser) ≡ 0 = b .empty c in
+      let z : bufferedOf (a .parser) + refusedBytes (a .parser .error .number) ≡ 0 = b .empty c in
       record {
         within = b .within;
         some = λ _. b .some (b .clear c);
-        sound = from-facts _ (record { parser = b .sound; «open» = omega (arith, f .«open», opens-low (s .«open») (codeOf (a .«record» .«record_type»)) (a .«record» .length) y); read = omega (arith, b .within) });
+        sound = from-facts _ (b .sound) (keeps (s .offset) (s .«open») (codeOf (a .«record» .«record_type»)) (a .«record» .length) y (b .sized c) (f .sums)) (omega (arith, b .within));
         read = omega arith;
       })
       (λ c.
@@ -214,6 +238,7 @@ module _ (s : Listing) (piece stage output : List ℕ) (at : ℕ) (t : soundList
       record {
         within = b .within;
         some = b .some;
-        sound = from-facts _ (record { parser = b .sound; «open» = f .«open»; read = omega (arith, b .within) });
+        sound = from-facts _ (b .sound) (f .sums)
+            (omega (arith, b .below (limit - s .offset) c (omega (arith, f .all)) (omega arith), f .read));
         read = omega arith;
       })

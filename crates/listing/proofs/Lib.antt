@@ -1,4 +1,5 @@
 pub mod Texts
+pub mod Sums
 pub mod Counts
 pub mod Cases
 pub mod Lines

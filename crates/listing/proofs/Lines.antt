@@ -36,7 +36,7 @@ module _ (s : Listing) (piece stage output : List ℕ) (taken at : ℕ) where
   abbrev out : Outcome
   out = outcome (listed (o .listed .refusal) (taken + o .listed .taken) (o .listed .written) (o .listed .listing)) (o .stage) (o .output)
 
-  lines-end : (n : ℕ) → length piece ≤ taken → lines n s piece stage output taken at ≡ stay
+  pub lines-end : (n : ℕ) → length piece ≤ taken → lines n s piece stage output taken at ≡ stay
   unfolding lines
   lines-end zero h = refl
   lines-end (suc n) h =
@@ -49,7 +49,7 @@ module _ (s : Listing) (piece stage output : List ℕ) (taken at : ℕ) where
       λ j. pick (lt-ltb taken (length piece) h j && lt-leb (at + 126) (length output) l j) (pick (passes (o .listed .refusal)) (on n) out) stay
 
   module _ (n : ℕ) (h : taken < length piece) (l : at + 126 ≤ length output) where
-    lines-step : (b : Bool) → passes (o .listed .refusal) ≡ b → lines (suc n) s piece stage output taken at ≡ pick b (on n) out
+    pub lines-step : (b : Bool) → passes (o .listed .refusal) ≡ b → lines (suc n) s piece stage output taken at ≡ pick b (on n) out
     unfolding lines
     lines-step b e = λ j. pick (lt-ltb taken (length piece) h j && le-leb (at + 126) (length output) l j) (pick (e j) (on n) out) stay
 

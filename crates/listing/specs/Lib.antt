@@ -1,3 +1,4 @@
 pub mod Listing
+pub mod Reach
 pub mod Steps
 pub mod Calls

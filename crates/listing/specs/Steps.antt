@@ -16,6 +16,7 @@ use Rattle.parser.specs.Push.{soundParser, pushOf, bufferedOf, payloadAt}
 use Rattle.parser.specs.declared.parser.RecordParser.{RecordParser}
 use Rattle.parser.specs.declared.parser.Pushed.{Pushed}
 use Rattle.listing.specs.Listing.{names, line, ending, openAfter, limit}
+use Rattle.listing.specs.Reach.{addsUp, refusedBytes}
 use Rattle.listing.specs.declared.listing.Listing.{Listing}
 use Rattle.listing.specs.declared.listing.Listed.{Listed}
 
@@ -30,9 +31,10 @@ fresh = listingOf parser.fresh 0 0
 abbrev pub readOf : Listing → ℕ
 readOf s = s .offset + bufferedOf (s .parser)
 
--- a sound parser, open no more than the bytes before it, and at most 2^62 bytes read
+-- a sound parser, at most 2^62 bytes read, and an offset and open that whole records leave
 unfoldable pub soundListing : Listing → Bool
-soundListing s = soundParser (s .parser) && (leb (s .«open») (s .offset) && leb (readOf s) limit)
+soundListing s =
+    soundParser (s .parser) && (leb (readOf s + refusedBytes (s .parser .error .number)) limit && addsUp (s .offset) (s .«open»))
 
 -- ---- what a call answers
 abbrev pub listed : Refusal → ℕ → ℕ → Listing → Listed

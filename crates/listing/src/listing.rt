@@ -1,11 +1,14 @@
 // The listing's state by value, and the calls that write lines: the names, the records of a piece,
 // the last line.
+use crate::reach::adds_up;
+use crate::reach::refused_bytes;
 use crate::text::put_ending;
 use crate::text::put_line;
 use crate::text::put_names;
 use parser::parser::Pushed;
 use parser::parser::RecordParser;
 use parser::parser::payload;
+use parser_push::push;
 use protocol::outer::OUTER_MAX_PAYLOAD;
 use protocol::outer::Written;
 use protocol::outer::value;
@@ -13,6 +16,7 @@ use wire::refusal::Refusal;
 ghost use mathlib.Core.Path.{_≡_};
 ghost use mathlib.Core.Bool.{true};
 ghost use Prim.Native.Nat.{_+_, _-_, _^_, _≤_, _<_, min};
+ghost use lib.Dec.{leb};
 ghost use lib.ListN.{length};
 ghost use Rattle.wire.specs.Bytes.{overlay};
 ghost use Rattle.protocol.specs.Outer as outer;
@@ -57,6 +61,19 @@ fn least(a: usize, b: u64) -> usize
     ensures { λ r. ⌜ r ≡ min b a ⌝ }
 {
     if b < a as u64 { b as usize } else { a }
+}
+
+// Whether at most 2^62 bytes were read.
+fn within_limit(offset: u64, held: u64, refused: u64) -> bool
+    ensures { λ r. ⌜ r ≡ leb ((offset + held) + refused) limit ⌝ }
+{
+    if LIMIT < offset {
+        return false;
+    }
+    if LIMIT - offset < held {
+        return false;
+    }
+    refused <= LIMIT - offset - held
 }
 
 // What a CREDIT leaves of open: its value is taken off, or all of open if that is less.
@@ -132,7 +149,7 @@ fn step(listing: Listing, piece: &[u8], stage: &mut [u8], output: &mut [u8], at:
     ensures { λ r. ⌜ outcome r (now (stage .exit)) (now (output .exit)) ≡ stepOf listing (now (piece .entry)) (now (stage .entry)) (now (output .entry)) at ⌝ }
 {
     let parser = listing.parser;
-    let pushed = parser.push(piece, stage);
+    let pushed = push(listing.parser, piece, stage);
     if pushed.complete {
         let record = pushed.record;
         let place = pushed.place;
@@ -232,13 +249,12 @@ impl Listing {
         if buffered.refusal.number != 0 {
             return false;
         }
-        if self.offset < self.open {
+        let error = parser.error;
+        let refused = refused_bytes(error.number);
+        if !within_limit(self.offset, buffered.count as u64, refused) {
             return false;
         }
-        if LIMIT < self.offset {
-            return false;
-        }
-        buffered.count as u64 <= LIMIT - self.offset
+        adds_up(self.offset, self.open)
     }
 
     // How many of `size` bytes more are read before reading ends.

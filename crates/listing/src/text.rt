@@ -1,6 +1,6 @@
 // The listing's lines, put into a lent buffer.
+use copying::copy_at;
 use decimal::put_number;
-use wire::bytes::copy_at;
 ghost use Prim.Native.Nat.{_+_, _≤_};
 ghost use lib.ListN.{length};
 ghost use Rattle.decimal.specs.Decimal.{Puts};

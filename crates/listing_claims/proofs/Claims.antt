@@ -1,7 +1,7 @@
 -- The claims of `specs/Claims.antt`. At the start what is still to be written is the listing without its names; where nothing more is
 -- read it is the last line; and calls in between write what is missing (`calls-write`). Assumes nothing.
 use Prim.Native.Nat.{ℕ, zero, suc, _+_, _-_, _≤_, _<_, min}
-use mathlib.Core.Path.{_≡_, refl, sym, ap, subst, _∙_}
+use mathlib.Core.Path.{_≡_, refl, sym, ap, ap₂, subst, _∙_}
 use mathlib.Core.Bool.{Bool, true, false, _&&_}
 use mathlib.Core.List.{List, [], _∷_, _++_, append-nil}
 use native.Mathlib.Omega.{arith}
@@ -12,27 +12,29 @@ use borrow.Author.Tests.{le-leb, leb-true, eqb-true, lt-ltb}
 use Rattle.wire.specs.Bytes.{overlay, fromLe, toLe}
 use Rattle.wire.specs.Header.{magicOf, versionOf, typeOf, flagsOf, instanceOf, epochOf, sequenceOf, lengthOf, headerBytes}
 use Rattle.wire.specs.Refusals.{pick, refusal, none, first, passes}
-use Rattle.protocol.specs.Outer.{maxPayload, write, valueOf, windowOk, creditOk}
+use Rattle.protocol.specs.Outer.{write, valueOf, windowOk, creditOk}
 use Rattle.types.specs.Types.{lengthOk, typeAt}
 use Rattle.record.specs.Record.{allZero, headerChecks, payloadChecks}
 use Rattle.decimal.specs.Decimal.{number, decimal, decimalIn}
 use Rattle.protocol.specs.Outer as outer
 use Rattle.wire.specs.declared.refusal.Refusal.{Refusal}
 use Rattle.wire.proofs.Rows.{picked, pass-all}
-use Rattle.parser.specs.Push.{soundParser, countsOk, errorOk, bufferedOf, heldIn}
+use Rattle.parser.specs.Push.{bufferedOf, heldIn}
 use Rattle.claims.proofs.Outcomes.{true-not-false, ready-scan}
-use Rattle.claims.proofs.Feeds.{bytesIn, fresh-ready}
+use Rattle.claims.proofs.Feeds.{bytesIn}
 use Rattle.claims.proofs.Latch.{again}
 use Rattle.listing.specs.Listing.{names, line, ending, openAfter, limit, listFrom, linesFrom, listing}
+use Rattle.listing.specs.Reach.{addsUp, refusedBytes}
 use Rattle.listing.specs.Steps.{fresh, readOf, soundListing, listed, Outcome, outcome, stepOf, lineRoom, soundRow, roomRow, lines, listRows, readable, listOf, namesOf, endLine, endOf}
 use Rattle.listing.specs.Calls.{Ended, all-taken, refused, full}
 use Rattle.listing.specs.declared.listing.Listing.{Listing}
-use Rattle.listing.proofs.Cases.{facts, Stepped, stepped}
-use Rattle.listing_claims.specs.Claims.{joined, text, OutputIsListing, NeverUnsound, TakesSome, ReadingEnds, ListingClaims}
+use Rattle.listing.proofs.Cases.{facts, from-facts, Stepped, stepped}
+use Rattle.listing_claims.specs.Claims.{joined, text, OutputIsListing, NeverUnsound, ReachedIsSound, TakesSome, ReadingEnds, ListingClaims}
 use Rattle.listing_claims.specs.Example.{capture, printed}
 use Rattle.listing_claims.proofs.Scanned.{unfinished-lines}
 use Rattle.listing_claims.proofs.Futures.{future, future-on, future-off, Good, held-length}
 use Rattle.listing_claims.proofs.Runs.{list-passes, calls-write}
+use Rattle.listing_claims.proofs.Reached.{first-good, reached}
 
 -- ---- one line written
 write-text : (v : Refusal) (bytes o : List ℕ) → passes v ≡ true → text (write v bytes o 0) ≡ bytes
@@ -48,10 +50,6 @@ end-text : (t : Listing) (o : List ℕ) → soundListing t ≡ true → lineRoom
 end-text t o s l = write-text (first (soundRow t ∷ roomRow o ∷ [])) (endLine t) o (pass-all (soundRow t ∷ roomRow o ∷ []) (s, (le-leb 126 (length o) l, tt)))
 
 -- ---- the start
-first-good : (stage : List ℕ) → maxPayload ≤ length stage → Good fresh stage
-unfolding soundListing soundParser countsOk errorOk
-first-good stage l = record { sound = refl; room = l; ready = λ _. fresh-ready stage .0 }
-
 first-future : (stage input : List ℕ) → future fresh stage input ≡ linesFrom 0 0 (take limit input)
 first-future stage input = future-on fresh stage input refl
 
@@ -100,6 +98,14 @@ output input left stage after front back t texts room lf lb c e =
 
 sound : NeverUnsound
 sound input left stage after t texts room c = calls-write c (first-good stage room) .1 .sound
+
+only-reached : ReachedIsSound
+only-reached s stage room p r =
+    let f = facts (r .last) (sound (r .input) (r .left) stage (r .after) (r .last) (r .texts) room (r .calls)) in
+    let e : readOf (r .last) + refusedBytes (r .last .parser .error .number) ≡ readOf s + refusedBytes (s .parser .error .number) =
+    λ i. r .offset i + r .held i + refusedBytes (r .number i)
+    in
+    from-facts s p (ap₂ addsUp (sym (r .offset)) (sym (r .«open»)) ∙ f .sums) (omega (arith, f .all))
 
 -- what was taken stays taken
 lines-grow : (n : ℕ) (s : Listing) (piece stage o : List ℕ) (taken at : ℕ) → taken ≤ lines n s piece stage o taken at .listed .taken
@@ -155,4 +161,4 @@ unfolding listing capture printed names listFrom line ending openAfter number de
 example = refl
 
 pub claims : ListingClaims
-claims = record { output = output; sound = sound; some = some; ends = ends; example = example }
+claims = record { output = output; sound = sound; reached = reached; only-reached = only-reached; some = some; ends = ends; example = example }

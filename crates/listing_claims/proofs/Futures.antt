@@ -108,7 +108,7 @@ module _ (s : Listing) (stage piece output : List ℕ) (at : ℕ) (good : Good s
   abbrev quiet : Outcome
   quiet = outcome (listed (a .refusal) (a .consumed) at (listingOf (a .parser) (s .offset) (s .«open»))) after output
 
-  step-is : (t : Bool) → a .complete ≡ t → stepOf s piece stage output at ≡ pick t lined quiet
+  pub step-is : (t : Bool) → a .complete ≡ t → stepOf s piece stage output at ≡ pick t lined quiet
   unfolding pushed pushOf
   step-is t e = ap (λ (x : Bool). pick x lined quiet) e
 
@@ -174,7 +174,7 @@ module _ (s : Listing) (stage piece output : List ℕ) (at : ℕ) (good : Good s
     unfolding recordWith
     size-is = ap (λ (r : Record). r .length) (t .fields)
 
-    payload-is : payload ≡ y
+    pub payload-is : payload ≡ y
     unfolding pushOf
     payload-is = payload-next (s .parser) piece stage placed (t .complete) ∙ t .payload
 

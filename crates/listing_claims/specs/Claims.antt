@@ -1,13 +1,16 @@
 -- What is claimed of the listing over whole captures (01, "The link listing"), gathered in `ListingClaims`.
-use Prim.Native.Nat.{ℕ, _≤_, _<_}
+use Prim.Native.Nat.{ℕ, _+_, _≤_, _<_}
 use mathlib.Core.Path.{_≡_}
 use mathlib.Core.Bool.{true}
 use mathlib.Core.List.{List, [], _∷_, _++_}
 use lib.ListN.{length, take}
+use Rattle.wire.specs.Bytes.{Octets}
 use Rattle.wire.specs.Refusals.{passes}
 use Rattle.protocol.specs.Outer as outer
 use Rattle.protocol.specs.Outer.{maxPayload}
+use Rattle.parser.specs.Push.{soundParser, bufferedOf}
 use Rattle.listing.specs.Listing.{limit, listing}
+use Rattle.listing.specs.Reach.{refusedBytes}
 use Rattle.listing.specs.Steps.{fresh, readOf, soundListing, lineRoom, listOf, namesOf, endOf}
 use Rattle.listing.specs.Calls.{Calls, Ended}
 use Rattle.listing.specs.declared.listing.Listing.{Listing}
@@ -36,6 +39,30 @@ NeverUnsound =
     (input left stage after : List ℕ) (t : Listing) (texts : List (List ℕ))
     → maxPayload ≤ length stage → Calls fresh stage input left t after texts → soundListing t ≡ true
 
+-- A capture whose calls, to the end of reading, leave a listing like s: with its offset and open, as many bytes held, and a refusal of
+-- the same number or none. The capture has as many bytes as s has read.
+pub record Reached (s : Listing) (stage : List ℕ) : Type 0 where
+  pub input : List ℕ
+  pub left : List ℕ
+  pub last : Listing
+  pub after : List ℕ
+  pub texts : List (List ℕ)
+  pub octets : Octets input
+  pub size : length input ≡ readOf s + refusedBytes (s .parser .error .number)
+  pub calls : Calls fresh stage input left last after texts
+  pub ended : Ended last left
+  pub offset : last .offset ≡ s .offset
+  pub «open» : last .«open» ≡ s .«open»
+  pub held : bufferedOf (last .parser) ≡ bufferedOf (s .parser)
+  pub number : last .parser .error .number ≡ s .parser .error .number
+
+-- Sound is exact for these: a sound listing is reached in this sense, and one that is reached, with a sound parser, is sound.
+abbrev pub SoundIsReached : Type 0
+SoundIsReached = (s : Listing) (stage : List ℕ) → maxPayload ≤ length stage → soundListing s ≡ true → Reached s stage
+
+abbrev pub ReachedIsSound : Type 0
+ReachedIsSound = (s : Listing) (stage : List ℕ) → maxPayload ≤ length stage → soundParser (s .parser) ≡ true → Reached s stage → soundListing s ≡ true
+
 -- A call that is lent bytes before reading ends takes one or more, or answers a refusal; so the calls come to an end.
 abbrev pub TakesSome : Type 0
 TakesSome =
@@ -49,7 +76,10 @@ ReadingEnds = (input : List ℕ) → listing (take limit input) ≡ listing inpu
 pub record ListingClaims : Type 0 where
   -- 01: "A program reads from standard input a capture .. It prints a line of names, then a line of values for each record .. The last line"
   pub output : OutputIsListing
+  -- 01, What stops each operation: "23, value unsound"
   pub sound : NeverUnsound
+  pub reached : SoundIsReached
+  pub only-reached : ReachedIsSound
   pub some : TakesSome
   -- 01: "Reading ends at 2^62 bytes as at the end of the input"
   pub ends : ReadingEnds

@@ -147,13 +147,6 @@ outcome r s = record { pushed = r; stage = s }
 unfoldable pub pushOf : RecordParser → List ℕ → List ℕ → Outcome
 pushOf p piece stage = outcome (push p (length stage) (heldIn p stage) piece .answer) (pushStage p piece stage)
 
--- the part of a push that follows byte 44, with the stage: the header checks, then the payload step
-unfoldable pub checkedOf : List ℕ → List ℕ → ℕ → List ℕ → Outcome
-checkedOf h rest from stage =
-    pick (passes (headerChecks h))
-    (outcome (pushBody h 0 [] rest from .answer) (bodyStage h 0 rest stage))
-    (outcome (failed h (headerChecks h)) stage)
-
 -- ---- where a payload lies
 abbrev pub payloadAt : Place → ℕ → List ℕ → List ℕ → List ℕ
 payloadAt (Piece at) size piece stage = take size (drop at piece)

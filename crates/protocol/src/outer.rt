@@ -1,12 +1,11 @@
 // Outer records (magic `NVXS`): the port of outer.rs. A record is a 44-byte header and a payload.
+use copying::copy_at;
 use wire::Epoch;
 use wire::Sequence;
-use wire::bytes::copy_at;
 use wire::bytes::u16_to_le_bytes;
 use wire::bytes::u32_from_le_bytes;
 use wire::bytes::u32_to_le_bytes;
 use wire::bytes::u64_to_le_bytes;
-use wire::fields;
 use wire::refusal::Refusal;
 ghost use mathlib.Core.Path.{_≡_};
 ghost use Prim.Native.Nat.{_+_, _≤_};

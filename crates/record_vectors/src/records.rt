@@ -1,10 +1,10 @@
 // One record through the encoder and through a parser.
 use crate::answers;
+use codec::encode_record;
 use parser::parser::RecordParser;
 use protocol::outer::Written;
 use protocol::outer::encode_header;
 use protocol::outer::put_record;
-use record::record::encode_record;
 use types::RecordType;
 use wire::Epoch;
 use wire::Sequence;
@@ -112,7 +112,7 @@ pub fn in_pieces(bytes: &[u8], n: usize)
     let mut at: usize = 0;
     while at < bytes.len() {
         let end = at + least(n, bytes.len() - at);
-        let pushed = parser.push(&bytes[at..end], &mut stage);
+        let pushed = parser_push::push(parser, &bytes[at..end], &mut stage);
         taken = std::num::wrapping_add_u64(taken, pushed.consumed as u64);
         if pushed.complete || pushed.refusal.number != 0 || end == bytes.len() {
             answers::pushed(pushed, taken, &bytes[at..end], &stage);

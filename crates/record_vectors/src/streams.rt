@@ -1,7 +1,7 @@
 // Streams of several pushes, a line for each push.
 use crate::answers;
+use codec::encode_record;
 use parser::parser::RecordParser;
-use record::record::encode_record;
 use types::RecordType;
 use wire::Epoch;
 use wire::Sequence;
@@ -10,7 +10,7 @@ use wire::Sequence;
 fn push(parser: RecordParser, piece: &[u8], stage: &mut [u8]) -> RecordParser {
     print::labelled(b"push ", piece.len() as u64);
     print::text(b" bytes: ");
-    let pushed = parser.push(piece, stage);
+    let pushed = parser_push::push(parser, piece, stage);
     answers::pushed(pushed, pushed.consumed as u64, piece, stage);
     pushed.parser
 }

@@ -1,25 +1,25 @@
 // Appends answers to the output of a block.
-use crate::answer::Answer;
-use crate::answer::HEAD;
-use crate::answer::Part;
-use crate::answer::finished;
-use crate::frame::AREA;
-use crate::frame::cut;
+use copying::copy_at;
 use parser::parser::Place;
-use wire::bytes::copy_at;
+use replay_answer::answer::Answer;
+use replay_answer::answer::HEAD;
+use replay_answer::answer::Part;
+use replay_answer::answer::finished;
+use replay_answer::frame::AREA;
+use replay_answer::frame::cut;
 
 // A payload, as the operation's layer hands it over.
 fn handed<'a>(op: u8, input: &'a [u8], stage: &'a [u8], place: Place, count: usize) -> &'a [u8] {
     if op == 11 {
-        return guest::guest::payload(input, stage, place, count);
+        return guest_receive::payload(input, stage, place, count);
     }
     if op == 21 {
-        return host::host::payload(input, stage, place, count);
+        return host_receive::payload(input, stage, place, count);
     }
     parser::parser::payload(input, stage, place, count)
 }
 
-// A part of the input or of the memory.
+// The part of the input or of the memory that the payload is.
 fn part_of<'a>(op: u8, p: Part, input: &'a [u8], memory: &'a [u8]) -> &'a [u8] {
     let stage = cut(memory, p.from, AREA);
     if p.source == 1 {
@@ -63,6 +63,6 @@ pub(crate) fn emit<'a>(
     let page = whole.page;
     let mut at = append_page(out, o, page, 0, HEAD);
     at = append(out, at, part_of(op, payload, input, memory));
-    at = append(out, at, part_of(op, written, input, memory));
+    at = append(out, at, cut(memory, written.from, written.count));
     append_page(out, at, page, HEAD, answer.state)
 }

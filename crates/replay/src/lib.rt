@@ -1,30 +1,26 @@
 // Runs blocks of calls on the port and writes what each answers, so that the answers can be held
-// to the Rust reference's (tests/differential/FORMAT.md). A layer of the port is a file here: a
-// session's or a parser's has a `turn`, which runs the calls that are its own, and any other an arm
-// of `plain`.
-mod answer;
+// to the Rust reference's (tests/differential/FORMAT.md). A layer of the port is a file in crate
+// replay_layers or, for a session's, replay_ends. A session's or a parser's has a `turn`, which runs
+// the calls that are its own; any other has an arm of `plain`.
 mod emit;
-mod frame;
-mod guest_calls;
-mod host_calls;
-mod outer_calls;
-mod parser_calls;
-mod record_calls;
-mod session_calls;
 
-use crate::answer::Answer;
-use crate::answer::Part;
-use crate::answer::blank;
-use crate::answer::paying;
 use crate::emit::emit;
-use crate::frame::AREA;
-use crate::frame::Frame;
-use crate::frame::cut;
-use crate::frame::frame_at;
-use crate::frame::same;
 use guest::guest::GuestSession;
 use host::host::HostSession;
 use parser::parser::RecordParser;
+use replay_answer::answer::Answer;
+use replay_answer::answer::Part;
+use replay_answer::answer::blank;
+use replay_answer::answer::paying;
+use replay_answer::frame::AREA;
+use replay_answer::frame::Frame;
+use replay_answer::frame::cut;
+use replay_answer::frame::frame_at;
+use replay_ends::guest_end;
+use replay_ends::host_end;
+use replay_layers::outer_calls;
+use replay_layers::parser_calls;
+use replay_layers::record_calls;
 ghost use Prim.Native.Nat.{_≤_};
 ghost use lib.ListN.{length};
 
@@ -55,8 +51,9 @@ fn show(f: Frame) -> Answer {
 fn plain(answer: Answer, f: Frame, input: &[u8], memory: &mut [u8]) -> Answer {
     let op = f.op;
     match op {
-        40 | 47 | 48 => record_calls::call(f, input, memory),
-        41..=46 => outer_calls::call(f, input, memory),
+        40..=46 => outer_calls::call(f, input, memory),
+        47 => record_calls::type_asks(f),
+        48 => record_calls::error_asks(f),
         60 => show(f),
         _ => answer,
     }
@@ -84,16 +81,16 @@ fn run(calls: &[u8], thin: bool, out: &mut [u8]) -> usize {
     let mut o: usize = 0;
     let mut at: usize = 0;
     while at < calls.len() {
-        let f = frame_at(calls, at, thin, out, o);
+        let f = frame_at(calls, at, thin, out.len(), o);
         let end = f.end;
         if end <= at {
             return o;
         }
         at = end;
         let input = cut(calls, f.from, f.size);
-        let g = guest_calls::turn(guest, f, input, &mut memory);
+        let g = guest_end::turn(guest, f, input, &mut memory);
         guest = g.guest;
-        let h = host_calls::turn(host, g.answer, f, input, &mut memory);
+        let h = host_end::turn(host, g.answer, f, input, &mut memory);
         host = h.host;
         let p = parser_calls::turn(parser, h.answer, f, input, &mut memory);
         parser = p.parser;
@@ -102,9 +99,32 @@ fn run(calls: &[u8], thin: bool, out: &mut [u8]) -> usize {
     o
 }
 
-// Marks the answers where they are not those of the second run: the first one's operation is then
-// 255, which no answer has.
-fn checked(out: &mut [u8], end: usize, second: &[u8]) -> usize
+// Whether two slices have the same bytes.
+fn same(a: &[u8], b: &[u8]) -> bool {
+    if a.len() != b.len() {
+        return false;
+    }
+    let mut equal = true;
+    let mut i: usize = 0;
+    while i < a.len() {
+        if a[i] != b[i] {
+            equal = false;
+        }
+        i += 1;
+    }
+    equal
+}
+
+// Whether the thin entries answer the calls with the same bytes.
+fn agrees(calls: &[u8], first: &[u8]) -> bool {
+    let mut second = [0u8; 262144];
+    run(calls, true, &mut second);
+    same(first, cut(&second, 0, first.len()))
+}
+
+// Marks the answers where the thin entries answer otherwise: the first one's operation is then 255,
+// which no answer has.
+fn checked(calls: &[u8], out: &mut [u8], end: usize) -> usize
     ensures { λ r. ⌜ r ≤ length (now (out .exit)) ⌝ }
 {
     if out.len() < end {
@@ -113,7 +133,7 @@ fn checked(out: &mut [u8], end: usize, second: &[u8]) -> usize
     if end < 5 {
         return end;
     }
-    if same(cut(out, 0, end), cut(second, 0, end)) {
+    if agrees(calls, cut(out, 0, end)) {
         return end;
     }
     out[4] = 255;
@@ -126,8 +146,6 @@ fn checked(out: &mut [u8], end: usize, second: &[u8]) -> usize
 pub fn block(calls: &[u8], out: &mut [u8]) -> usize
     ensures { λ r. ⌜ r ≤ length (now (out .exit)) ⌝ }
 {
-    let mut second = [0u8; 262144];
     let end = run(calls, false, out);
-    run(calls, true, &mut second);
-    checked(out, end, &second)
+    checked(calls, out, end)
 }

@@ -1,8 +1,8 @@
 // Identities, the shared checks, and the encoders of the next record of a direction.
+use codec::all_zero;
+use codec::encode_record;
 use protocol::outer::OUTER_MAX_PAYLOAD;
 use record::record::Record;
-use record::record::all_zero;
-use record::record::encode_record;
 use types::RecordType;
 use wire::Epoch;
 use wire::Sequence;

@@ -1,6 +1,5 @@
-// What every layer reads and writes: numbers of fixed width, a header's fields, and refusals.
+// What every layer reads and writes: numbers of fixed width, and refusals.
 pub mod bytes;
-pub mod fields;
 pub mod refusal;
 
 // The epoch of a session: a RESET starts a new one. (01: epoch and sequence are counted

@@ -48,15 +48,15 @@ use denote.Triple.Walked.{says, needs, Stays, stay-ref, stay-none, stay-none-ref
 use denote.Exit.{yes}
 use denote.Signature.{plain}
 use denote.Signature.Array.{arrayOf}
-use Rattle.guest.specs.Calls.{Outcome, outcome, credit}
+use Rattle.guest_calls.specs.Calls.{Outcome, outcome, credit}
 use Rattle.guest_entry.specs.Answers.{creditAnswer}
 use Rattle.guest.specs.declared.guest.GuestSession.{GuestSession}
-use Rattle.guest.specs.declared.guest.Sent.{Sent}
+use Rattle.guest_calls.specs.declared.Sent.{Sent}
 use Rattle.guest_entry.specs.declared.CreditAnswer.{CreditAnswer}
 use Rattle.guest.proofs.guest.GuestSession as S
 use Rattle.guest.proofs.guest.GuestSession.Laws as S′
-use Rattle.guest.proofs.guest.Sent as D
-use Rattle.guest.proofs.guest.Sent.Laws as D′
+use Rattle.guest_calls.proofs.Sent as D
+use Rattle.guest_calls.proofs.Sent.Laws as D′
 use Rattle.guest_entry.proofs.CreditAnswer as R
 use Rattle.guest_entry.proofs.CreditAnswer.Laws as R′
 use Rattle.guest_entry.proofs.credit_in as callee

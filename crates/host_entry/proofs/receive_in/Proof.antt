@@ -1,5 +1,5 @@
 -- `host_entry::receive_in` meets its contract, by a walk of its MIR. The borrow of the session is opened, the session is copied whole into a local and passed to the callee, and the session of its answer is stored over the old one, whole; the borrow is closed there.
--- All that the proof knows of the callee, `host::host::HostSession::receive`, is that it meets its contract. The session is never taken apart, so its fields do not matter here.
+-- All that the proof knows of the callee, `host_receive::receive`, is that it meets its contract. The session is never taken apart, so its fields do not matter here.
 -- Assumes nothing.
 use mathlib.Core.Path.{_≡_, refl, ap, subst}
 use Prim.Native.Nat.{ℕ, _<_, _≤_, _^_}
@@ -48,22 +48,22 @@ use denote.Triple.Walked.{says, needs, Stays, stay-ref, stay-none, stay-none-ref
 use denote.Exit.{yes}
 use denote.Signature.{plain}
 use denote.Signature.Array.{arrayOf}
-use Rattle.host.specs.Receive.{Outcome, outcome, receiveOf}
+use Rattle.host_receive.specs.Receive.{Outcome, outcome, receiveOf}
 use Rattle.host_entry.specs.Answers.{receiveAnswer}
 use Rattle.host.specs.declared.host.HostSession.{HostSession}
-use Rattle.host.specs.declared.host.Received.{Received}
+use Rattle.host_receive.specs.declared.Received.{Received}
 use Rattle.host_entry.specs.declared.ReceiveAnswer.{ReceiveAnswer}
 use Rattle.host_entry.proofs.Says.{says3}
 use Rattle.host.proofs.host.HostSession as S
 use Rattle.host.proofs.host.HostSession.Laws as S′
-use Rattle.host.proofs.host.Received as D
-use Rattle.host.proofs.host.Received.Laws as D′
+use Rattle.host_receive.proofs.Received as D
+use Rattle.host_receive.proofs.Received.Laws as D′
 use Rattle.host_entry.proofs.ReceiveAnswer as R
 use Rattle.host_entry.proofs.ReceiveAnswer.Laws as R′
-use Rattle.host.proofs.host.HostSession.receive as callee
-use Rattle.host.proofs.host.HostSession.receive.Symbol as callee-def
-use Rattle.host.proofs.host.HostSession.receive.Symbol.{name as #callee}
-use Rattle.host.proofs.host.HostSession.receive.Met as callee-thm
+use Rattle.host_receive.proofs.receive as callee
+use Rattle.host_receive.proofs.receive.Symbol as callee-def
+use Rattle.host_receive.proofs.receive.Symbol.{name as #callee}
+use Rattle.host_receive.proofs.receive.Met as callee-thm
 use Rattle.host_entry.proofs.receive_in.Key.{name as #self}
 use Rattle.host_entry.proofs.receive_in as self
 use Rattle.host_entry.proofs.receive_in.Statement as stated
@@ -213,4 +213,4 @@ receive-in-spec 𝓤 H 𝓜 𝓖 𝓡 =
     entered 𝓤 H (tripleOf 𝓤 H (𝓖 .A) self.signature (self.spec 𝓤 H (𝓖 .A) (𝓜 .mem) (𝓡 .run)))
     (tables 𝓤 H 𝓜 𝓡 code.env .C) (tables 𝓤 H 𝓜 𝓡 code.env .Λ) #self code.function (code.unfolded 𝓤 H 𝓜 𝓡)
     (self-meets 𝓤 H (𝓖 .A) (givenOf 𝓤 H 𝓜 𝓖) (𝓜 .mem) (𝓡 .run) (tablesOf 𝓤 H 𝓜 (tables 𝓤 H 𝓜 𝓡 code.env))
-    (cited 𝓤 H (Callee 𝓤 H (𝓖 .A) (𝓜 .mem) (𝓡 .run)) 𝓜 𝓡 code.env #callee callee-def.routine code.calls-host·host·HostSession·receive (callee-thm.met 𝓤 H 𝓜 𝓖 𝓡)))
+    (cited 𝓤 H (Callee 𝓤 H (𝓖 .A) (𝓜 .mem) (𝓡 .run)) 𝓜 𝓡 code.env #callee callee-def.routine code.calls-host-receive·receive (callee-thm.met 𝓤 H 𝓜 𝓖 𝓡)))

@@ -48,15 +48,15 @@ use denote.Triple.Walked.{says, needs, Stays, stay-ref, stay-none, stay-none-ref
 use denote.Exit.{yes}
 use denote.Signature.{plain}
 use denote.Signature.Array.{arrayOf}
-use Rattle.host.specs.Receive.{Outcome, outcome, receiveOf}
+use Rattle.host_receive.specs.Receive.{Outcome, outcome, receiveOf}
 use Rattle.host_entry.specs.Answers.{receiveAnswer}
 use Rattle.host.specs.declared.host.HostSession.{HostSession}
-use Rattle.host.specs.declared.host.Received.{Received}
+use Rattle.host_receive.specs.declared.Received.{Received}
 use Rattle.host_entry.specs.declared.ReceiveAnswer.{ReceiveAnswer}
 use Rattle.host.proofs.host.HostSession as S
 use Rattle.host.proofs.host.HostSession.Laws as S′
-use Rattle.host.proofs.host.Received as D
-use Rattle.host.proofs.host.Received.Laws as D′
+use Rattle.host_receive.proofs.Received as D
+use Rattle.host_receive.proofs.Received.Laws as D′
 use Rattle.host_entry.proofs.ReceiveAnswer as R
 use Rattle.host_entry.proofs.ReceiveAnswer.Laws as R′
 use Rattle.host_entry.proofs.receive_in as callee

@@ -65,12 +65,12 @@ finish-requires c κs = search needs
 loop-less : tie.Need-loop-less Inv-loop μ-loop
 loop-less c =
     let e = c .before .before .before .before .before .before .before .before .before .before .before .before .before .before .before .before .before .before .before in
-    omega (arith, e .if1 .left, e .before .before .before .loop-test .taken)
+    omega (arith, e .if1 .left, e .before .before .loop-test .taken)
 
 loop-again : tie.Need-loop-again Inv-loop μ-loop
 loop-again c =
     let e = c .before .before .before .before .before .before .before .before .before .before .before .before .before .before .before .before .before .before .before in
-    let l = e .before .before .before .before .loop in
+    let l = e .before .before .before .loop in
     search (needs, l .inv .0, l .inv .1, c .before .before .before .finish .kept)
 
 same-length-2 : tie.Need-same-length-2 Inv-loop μ-loop

@@ -1,6 +1,6 @@
 -- `host::host::HostSession::identity` meets its contract. Each return is a case of `identityOf`, of the laws `asking`. Assumes nothing.
 use borrow.Author.Needs.{needs}
-use Rattle.host.proofs.Calling.{asking}
+use Rattle.host.proofs.Asking.{asking}
 use Rattle.host.proofs.host.HostSession.identity.Statement.{statement}
 use Rattle.host.proofs.host.HostSession.identity.Tie as tie
 

@@ -1,6 +1,6 @@
 -- `host::host::HostSession::needed` meets its contract. Each return is a case of `neededBy`, of the laws `asking`; a sound session's parser tells its own count. Assumes nothing.
 use borrow.Author.Needs.{needs}
-use Rattle.host.proofs.Calling.{asking}
+use Rattle.host.proofs.Asking.{asking}
 use Rattle.host.proofs.host.HostSession.needed.Statement.{statement}
 use Rattle.host.proofs.host.HostSession.needed.Tie as tie
 

@@ -1,0 +1,62 @@
+-- `codec::is_data` meets its contract: where the last test is reached every row of the checks passes (`data-passes`). Assumes nothing.
+use Rattle.record.proofs.Cases.{data-passes}
+use borrow.Author.Needs.{needs}
+use Rattle.codec.proofs.is_data.Statement.{statement}
+use Rattle.codec.proofs.is_data.Tie as tie
+
+magic-requires : tie.Need-magic-requires
+magic-requires c κs = search needs
+
+u32-from-le-bytes-requires : tie.Need-u32-from-le-bytes-requires
+u32-from-le-bytes-requires c κs = search needs
+
+returns : tie.Need-returns
+returns c e = cc
+
+version-requires : tie.Need-version-requires
+version-requires c κs = search needs
+
+returns-2 : tie.Need-returns-2
+returns-2 c e = cc
+
+record-type-requires : tie.Need-record-type-requires
+record-type-requires c κs = search needs
+
+returns-3 : tie.Need-returns-3
+returns-3 c e = cc
+
+flags-requires : tie.Need-flags-requires
+flags-requires c κs = search needs
+
+returns-4 : tie.Need-returns-4
+returns-4 c e = cc
+
+length-requires : tie.Need-length-requires
+length-requires c κs = search needs
+
+cast-allows-length : tie.Need-cast-allows-length
+cast-allows-length c = search needs
+
+allows-length-requires : tie.Need-allows-length-requires
+allows-length-requires c κs = search needs
+
+returns-5 : tie.Need-returns-5
+returns-5 c e = search data-passes
+
+pub is-data-spec : {M : Type 1} → statement M
+is-data-spec =
+    tie.close
+    (tie.spec
+    magic-requires
+    u32-from-le-bytes-requires
+    returns
+    version-requires
+    returns-2
+    record-type-requires
+    returns-3
+    flags-requires
+    returns-4
+    length-requires
+    cast-allows-length
+    allows-length-requires
+    returns-5)

@@ -1,0 +1,285 @@
+// The checks on a record's header and payload, the header read, and the encoder.
+use protocol::outer::OUTER_MAGIC;
+use protocol::outer::OUTER_VERSION;
+use protocol::outer::Written;
+use protocol::outer::credit_ok;
+use protocol::outer::encode_header;
+use protocol::outer::put_record;
+use protocol::outer::value;
+use protocol::outer::window_ok;
+use record::record::ParsedHeader;
+use record::record::Record;
+use record::record::no_record;
+use types::ErrorCode;
+use types::ErrorLookup;
+use types::RecordType;
+use types::TypeLookup;
+use wire::Epoch;
+use wire::Sequence;
+use wire::bytes::u32_from_le_bytes;
+use wire::refusal::Refusal;
+ghost use mathlib.Core.Path.{_≡_};
+ghost use mathlib.Core.Bool.{true, _&&_};
+ghost use mathlib.Core.List.{[], _∷_};
+ghost use lib.ListN.{length};
+ghost use lib.Dec.{eqb};
+ghost use Rattle.wire.specs.Refusals.{refusal, first, passes};
+ghost use Rattle.protocol.specs.Outer.{outcome, windowOk, creditOk};
+ghost use Rattle.types.specs.Types.{codeOf};
+ghost use Rattle.record.specs.Record.{allZero, lengthRow, bootstrapRow, restRows, recordRows, payloadChecks, recordWith, recordOf, headerChecks, parseHeader, encodeRecord};
+
+// Whether the 16 bytes are all zero.
+pub fn all_zero(bytes: [u8; 16]) -> bool
+    ensures { λ r. ⌜ r ≡ allZero bytes ⌝ }
+{
+    let mut zero = true;
+    let mut i: usize = 0;
+    while i < 16 {
+        if bytes[i] != 0 {
+            zero = false;
+        }
+        i += 1;
+    }
+    zero
+}
+
+// Checks that a type allows a payload of so many bytes.
+pub fn check_length(record_type: RecordType, length: usize) -> Refusal
+    ensures { λ r. ⌜ r ≡ first (lengthRow (codeOf «record_type») length ∷ []) ⌝ }
+{
+    if record_type.allows_length(length) {
+        return Refusal::none();
+    }
+    Refusal::new(5, record_type.code() as u64, length as u64, 0)
+}
+
+// Checks that a bootstrap record carries a zero instance, epoch and sequence.
+pub fn check_bootstrap(
+    record_type: RecordType,
+    instance_id: [u8; 16],
+    epoch: Epoch,
+    sequence: Sequence,
+) -> Refusal
+    ensures { λ r. ⌜ r ≡ first (bootstrapRow (codeOf «record_type») «instance_id» (epoch .0) (sequence .0) ∷ []) ⌝ }
+{
+    if !record_type.is_bootstrap() {
+        return Refusal::none();
+    }
+    if zero_identity(instance_id, epoch, sequence) {
+        return Refusal::none();
+    }
+    Refusal::new(6, record_type.code() as u64, 0, 0)
+}
+
+// Whether instance, epoch and sequence are all zero.
+fn zero_identity(instance_id: [u8; 16], epoch: Epoch, sequence: Sequence) -> bool
+    ensures { λ r. ⌜ r ≡ allZero «instance_id» && (eqb (epoch .0) 0 && eqb (sequence .0) 0) ⌝ }
+{
+    if !all_zero(instance_id) {
+        return false;
+    }
+    if epoch.0 != 0 {
+        return false;
+    }
+    sequence.0 == 0
+}
+
+// Checks a window.
+fn check_window(window: u32) -> Refusal
+    ensures { λ r. ⌜ r ≡ first ((windowOk window, refusal 8 window 0 0) ∷ []) ⌝ }
+{
+    if window_ok(window) {
+        return Refusal::none();
+    }
+    Refusal::new(8, window as u64, 0, 0)
+}
+
+// Checks a credit.
+fn check_credit(bytes: u32) -> Refusal
+    ensures { λ r. ⌜ r ≡ first ((creditOk bytes, refusal 9 bytes 0 0) ∷ []) ⌝ }
+{
+    if credit_ok(bytes) {
+        return Refusal::none();
+    }
+    Refusal::new(9, bytes as u64, 0, 0)
+}
+
+// Checks an error value.
+fn check_error(code: u32) -> Refusal
+    ensures { λ r. ⌜ r ≡ first ((eqb code 1, refusal 7 code 0 0) ∷ []) ⌝ }
+{
+    let ErrorLookup::Known(_) = ErrorCode::from_code(code) else {
+        return Refusal::new(7, code as u64, 0, 0);
+    };
+    Refusal::none()
+}
+
+// Checks the value of an ACK, CREDIT or ERROR payload.
+pub fn check_payload(record_type: RecordType, payload: &[u8]) -> Refusal
+    ensures { λ r. ⌜ r ≡ payloadChecks (codeOf «record_type») (now (payload .entry)) ⌝ }
+{
+    match record_type {
+        RecordType::GuestAttach => Refusal::none(),
+        RecordType::HostAttach => Refusal::none(),
+        RecordType::Reset => Refusal::none(),
+        RecordType::Ack => check_window(value(payload)),
+        RecordType::Data => Refusal::none(),
+        RecordType::Wait => Refusal::none(),
+        RecordType::Ready => Refusal::none(),
+        RecordType::Error => check_error(value(payload)),
+        RecordType::Credit => check_credit(value(payload)),
+    }
+}
+
+// The fields of a header of a given type.
+fn record_with(header: &[u8; 44], record_type: RecordType) -> Record
+    ensures { λ r. ⌜ r ≡ recordWith «record_type» (now (header .entry)) ⌝ }
+{
+    Record {
+        record_type,
+        instance_id: fields::instance_id(header),
+        epoch: fields::epoch(header),
+        sequence: fields::sequence(header),
+        length: fields::length(header) as usize,
+    }
+}
+
+// The fields of a header's bytes.
+pub fn record_of(header: &[u8; 44]) -> Record
+    ensures { λ r. ⌜ r ≡ recordOf (now (header .entry)) ⌝ }
+{
+    let TypeLookup::Known(record_type) = RecordType::from_code(fields::record_type(header)) else {
+        return record_with(header, RecordType::GuestAttach);
+    };
+    record_with(header, record_type)
+}
+
+// The checks that follow the type's: 4, 5, 6.
+fn check_rest(header: &[u8; 44], record_type: RecordType) -> Refusal
+    ensures { λ r. ⌜ r ≡ first (restRows (codeOf «record_type») (now (header .entry))) ⌝ }
+{
+    let flags = fields::flags(header);
+    if flags != 0 {
+        return Refusal::new(4, flags as u64, 0, 0);
+    }
+    let refusal = check_length(record_type, fields::length(header) as usize);
+    if refusal.number != 0 {
+        return refusal;
+    }
+    check_bootstrap(
+        record_type,
+        fields::instance_id(header),
+        fields::epoch(header),
+        fields::sequence(header),
+    )
+}
+
+// The header checks, 1 to 6. An unknown code leaves with 3 before the flags are read.
+pub fn check_header(header: &[u8; 44]) -> Refusal
+    ensures { λ r. ⌜ r ≡ headerChecks (now (header .entry)) ⌝ }
+{
+    let magic = fields::magic(header);
+    if magic != u32_from_le_bytes(OUTER_MAGIC) {
+        return Refusal::new(1, magic as u64, 0, 0);
+    }
+    let version = fields::version(header);
+    if version != OUTER_VERSION {
+        return Refusal::new(2, version as u64, 0, 0);
+    }
+    let code = fields::record_type(header);
+    let TypeLookup::Known(record_type) = RecordType::from_code(code) else {
+        return Refusal::new(3, code as u64, 0, 0);
+    };
+    check_rest(header, record_type)
+}
+
+// Whether the header is one of DATA that passes the checks.
+fn is_data(header: &[u8; 44]) -> bool
+    ensures { λ r. ⌜ (r ≡ true → passes (headerChecks (now (header .entry))) ≡ true) ⌝ }
+{
+    if fields::magic(header) != u32_from_le_bytes(OUTER_MAGIC) {
+        return false;
+    }
+    if fields::version(header) != OUTER_VERSION {
+        return false;
+    }
+    if fields::record_type(header) != 5 {
+        return false;
+    }
+    if fields::flags(header) != 0 {
+        return false;
+    }
+    let record_type = RecordType::Data;
+    record_type.allows_length(fields::length(header) as usize)
+}
+
+// Whether the header checks pass. DATA, the most frequent type, is tested first.
+pub fn header_ok(header: &[u8; 44]) -> bool
+    ensures { λ r. ⌜ r ≡ passes (headerChecks (now (header .entry))) ⌝ }
+{
+    if is_data(header) {
+        return true;
+    }
+    let refusal = check_header(header);
+    refusal.number == 0
+}
+
+// Decodes and validates a record header.
+pub fn parse_header(header: &[u8; 44]) -> ParsedHeader
+    ensures { λ r. ⌜ r ≡ parseHeader (now (header .entry)) ⌝ }
+{
+    let refusal = check_header(header);
+    if refusal.number != 0 {
+        return ParsedHeader {
+            refusal,
+            record: no_record(),
+        };
+    }
+    ParsedHeader {
+        refusal: Refusal::none(),
+        record: record_of(header),
+    }
+}
+
+// The checks that the encoder makes before 22: 5, 6, then 8, 9, 7.
+fn check_record(
+    record_type: RecordType,
+    instance_id: [u8; 16],
+    epoch: Epoch,
+    sequence: Sequence,
+    payload: &[u8],
+) -> Refusal
+    ensures { λ r. ⌜ r ≡ first (recordRows (codeOf «record_type») «instance_id» (epoch .0) (sequence .0) (now (payload .entry))) ⌝ }
+{
+    let length = check_length(record_type, payload.len());
+    if length.number != 0 {
+        return length;
+    }
+    let bootstrap = check_bootstrap(record_type, instance_id, epoch, sequence);
+    if bootstrap.number != 0 {
+        return bootstrap;
+    }
+    check_payload(record_type, payload)
+}
+
+// Validates one record and writes it at a position of the output.
+pub fn encode_record(
+    record_type: RecordType,
+    instance_id: [u8; 16],
+    epoch: Epoch,
+    sequence: Sequence,
+    payload: &[u8],
+    output: &mut [u8],
+    at: usize,
+) -> Written
+    ensures { λ r. ⌜ outcome r (now (output .exit)) ≡ encodeRecord (codeOf «record_type») «instance_id» (epoch .0) (sequence .0) (now (payload .entry)) (now (output .entry)) at ⌝ }
+{
+    let refusal = check_record(record_type, instance_id, epoch, sequence, payload);
+    if refusal.number != 0 {
+        return Written { refusal, next: 0 };
+    }
+    let code = record_type.code();
+    let length = payload.len() as u32;
+    let header = encode_header(code, instance_id, epoch, sequence, length);
+    put_record(header, payload, output, at)
+}

@@ -1,0 +1,17 @@
+-- `fields::flags` meets its contract. The byte read is that of `flagsOf`. Assumes nothing.
+use mathlib.Core.Path.{refl}
+use Rattle.wire.specs.Header.{flagsOf}
+use borrow.Author.Needs.{needs}
+use lib.Dec.{lit<}
+use Rattle.fields.proofs.flags.Statement.{statement}
+use Rattle.fields.proofs.flags.Tie as tie
+
+element-copy-out-result : tie.Need-element-copy-out-result
+element-copy-out-result c = lit< tt
+
+returns : tie.Need-returns
+unfolding flagsOf
+returns c = refl
+
+pub flags-spec : {M : Type 1} → statement M
+flags-spec = tie.close (tie.spec element-copy-out-result returns)

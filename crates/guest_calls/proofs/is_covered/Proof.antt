@@ -1,0 +1,13 @@
+-- `guest_calls::is_covered` meets its contract. Each way it returns is a case of its rule: `covering` of proofs/Calling. Assumes nothing.
+use Rattle.guest_calls.proofs.Calling.{covering}
+use Rattle.guest_calls.proofs.is_covered.Statement.{statement}
+use Rattle.guest_calls.proofs.is_covered.Tie as tie
+
+returns : tie.Need-returns
+returns c = search covering
+
+returns-2 : tie.Need-returns-2
+returns-2 c = search covering
+
+pub is-covered-spec : {M : Type 1} → statement M
+is-covered-spec = tie.close (tie.spec returns returns-2)

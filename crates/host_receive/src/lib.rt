@@ -1,0 +1,462 @@
+// The host's receive (01, "receive"): it takes the session and answers with the session after it.
+use copying::copy_at;
+use host::host::HostSession;
+use host::host::HostState;
+use parser::parser::Place;
+use parser::parser::Pushed;
+use parser::parser::RecordParser;
+use parser_push::push;
+use protocol::outer::OUTER_HEADER_LEN;
+use protocol::outer::OUTER_MAX_PAYLOAD;
+use record::record::Record;
+use session::session::Identity;
+use session::session::OptionalIdentity;
+use session::session::check_identity;
+use session::session::check_instance;
+use session::session::check_sequence;
+use session::session::identity_in;
+use session::session::is_identity;
+use session::session::next_sequence;
+use session::session::no_identity;
+use types::RecordType;
+use wire::Sequence;
+use wire::refusal::Refusal;
+ghost use mathlib.Core.Path.{_≡_};
+ghost use mathlib.Core.Bool.{_&&_, _||_};
+ghost use mathlib.Core.List.{[], _∷_};
+ghost use Prim.Native.Nat.{_<_, _+_, _^_};
+ghost use lib.Dec.{eqb, leb};
+ghost use Rattle.wire.specs.Refusals.{refusal, first};
+ghost use Rattle.types.specs.Types.{codeOf};
+ghost use Rattle.types.specs.declared.RecordType.the-variants as Kind;
+ghost use Rattle.parser.specs.Push.{payloadAt, waiting};
+ghost use Rattle.session.specs.Checks.{lastSequence, identityRow, instanceRow};
+ghost use Rattle.host.specs.State.{withState, nextHost};
+ghost use Rattle.host.specs.declared.host.HostState.the-variants as State;
+ghost use Rattle.host_receive.specs.Receive.{allowed, staleRow, orderRows, typeRows, recordRows, told, refused, reports, effect, accept, afterPush, outcome, receiveOf};
+
+// What a receive reports. The identity of READY and RESET stands beside it in the answer; the bytes
+// of data are had by `payload`. A rejection carries the one error code there is.
+pub enum HostEvent {
+    Nothing,
+    Wait,
+    Attached,
+    Rejected,
+    Data,
+    Reset,
+}
+
+// What `receive` answers. What the event does not use is zero.
+pub struct Received {
+    pub refusal: Refusal,
+    pub consumed: usize,
+    pub event: HostEvent,
+    pub identity: Identity,
+    pub place: Place,
+    pub length: usize,
+    pub session: HostSession,
+}
+
+// Whether a host receives in a state.
+fn is_open(state: u8) -> bool
+    ensures { λ r. ⌜ r ≡ leb 1 state && leb state 2 ⌝ }
+{
+    if state < 1 {
+        return false;
+    }
+    state <= 2
+}
+
+// Whether a type belongs to an attachment: Wait, Ready, Error.
+fn is_attachment(kind: u8) -> bool
+    ensures { λ r. ⌜ r ≡ eqb kind 6 || (eqb kind 7 || eqb kind 8) ⌝ }
+{
+    if kind == 6 {
+        return true;
+    }
+    if kind == 7 {
+        return true;
+    }
+    kind == 8
+}
+
+// Whether a type belongs to a session: Data, Reset.
+fn is_traffic(kind: u8) -> bool
+    ensures { λ r. ⌜ r ≡ eqb kind 5 || eqb kind 3 ⌝ }
+{
+    if kind == 5 {
+        return true;
+    }
+    kind == 3
+}
+
+// Whether a type is allowed in a state.
+fn is_allowed(state: HostState, kind: u8) -> bool
+    ensures { λ r. ⌜ r ≡ allowed state kind ⌝ }
+{
+    let number = state.number();
+    if number == 1 {
+        return is_attachment(kind);
+    }
+    if number == 2 {
+        return is_traffic(kind);
+    }
+    false
+}
+
+// The session after a record: the state and the identity that it leads to.
+fn next_session(
+    session: HostSession,
+    state: HostState,
+    parser: RecordParser,
+    identity: OptionalIdentity,
+) -> HostSession
+    requires { ⌜ session .«receive_sequence» .0 < lastSequence ⌝ }
+    ensures { λ r. ⌜ r ≡ nextHost session state parser identity ⌝ }
+{
+    let send_sequence = session.send_sequence;
+    HostSession {
+        parser,
+        identity,
+        receive_sequence: Sequence(session.receive_sequence.0 + 1),
+        send_sequence,
+        state,
+    }
+}
+
+// A receive that is refused, with the session it leaves.
+fn refuse(session: HostSession, refusal: Refusal) -> Received
+    ensures { λ r. ⌜ r ≡ refused refusal session ⌝ }
+{
+    Received {
+        refusal,
+        consumed: 0,
+        event: HostEvent::Nothing,
+        identity: no_identity(),
+        place: Place::Piece(0),
+        length: 0,
+        session,
+    }
+}
+
+// A receive that leaves Failed.
+fn fail(session: HostSession, parser: RecordParser, refusal: Refusal) -> Received
+    ensures { λ r. ⌜ r ≡ refused refusal (withState session State.Failed parser) ⌝ }
+{
+    refuse(session.with_state(HostState::Failed, parser), refusal)
+}
+
+// What stops a record by its type and sequence: 10, 15, 16.
+fn check_order(
+    state: HostState,
+    record_type: RecordType,
+    actual: Sequence,
+    due: Sequence,
+) -> Refusal
+    ensures { λ r. ⌜ r ≡ first (orderRows state (codeOf «record_type») (actual .0) (due .0)) ⌝ }
+{
+    let code = record_type.code();
+    if !is_allowed(state, code) {
+        return Refusal::new(10, code as u64, 0, 0);
+    }
+    let sequence = check_sequence(actual, due);
+    if sequence.number != 0 {
+        return sequence;
+    }
+    let next = next_sequence(due, record_type);
+    next.refusal
+}
+
+// What stops a record that must carry an identity: 11.
+fn check_carried(code: u8, actual: Identity) -> Refusal
+    ensures { λ r. ⌜ r ≡ first (identityRow code (actual .«instance_id») (actual .epoch .0) ∷ []) ⌝ }
+{
+    let instance_id = actual.instance_id;
+    if is_identity(instance_id, actual.epoch) {
+        return Refusal::none();
+    }
+    Refusal::new(11, code as u64, 0, 0)
+}
+
+// What stops a RESET: 11, 12, 14.
+fn check_reset(actual: Identity, current: Identity) -> Refusal
+    ensures { λ r. ⌜ r ≡ first (identityRow 3 (actual .«instance_id») (actual .epoch .0) ∷ instanceRow (current .«instance_id») (actual .«instance_id») ∷ staleRow (current .epoch .0) (actual .epoch .0) ∷ []) ⌝ }
+{
+    let missing = check_carried(3, actual);
+    if missing.number != 0 {
+        return missing;
+    }
+    let actual_instance = actual.instance_id;
+    let current_instance = current.instance_id;
+    let other = check_instance(actual_instance, current_instance);
+    if other.number != 0 {
+        return other;
+    }
+    if actual.epoch.0 <= current.epoch.0 {
+        return Refusal::new(14, current.epoch.0, actual.epoch.0, 0);
+    }
+    Refusal::none()
+}
+
+// What stops a record by its identity: Ready 11; Data 12, 13; Reset 11, 12, 14.
+fn check_type(code: u8, current: Identity, record: Record) -> Refusal
+    ensures { λ r. ⌜ r ≡ first (typeRows code current «record») ⌝ }
+{
+    let actual = identity_in(record);
+    if code == 7 {
+        return check_carried(7, actual);
+    }
+    if code == 5 {
+        return check_identity(actual, current);
+    }
+    if code == 3 {
+        return check_reset(actual, current);
+    }
+    Refusal::none()
+}
+
+// What stops a whole record.
+fn check_record(session: HostSession, record: Record) -> Refusal
+    ensures { λ r. ⌜ r ≡ first (recordRows session «record») ⌝ }
+{
+    let state = session.state;
+    let record_type = record.record_type;
+    let order = check_order(
+        state,
+        record_type,
+        record.sequence,
+        session.receive_sequence,
+    );
+    if order.number != 0 {
+        return order;
+    }
+    check_type(record_type.code(), session.identity.identity, record)
+}
+
+// A receive that reports an event without bytes.
+fn report(
+    session: HostSession,
+    pushed: Pushed,
+    event: HostEvent,
+    identity: Identity,
+    state: HostState,
+    held: OptionalIdentity,
+) -> Received
+    requires { ⌜ session .«receive_sequence» .0 < lastSequence ⌝ }
+    ensures { λ r. ⌜ r ≡ reports session (told pushed) event identity state held .answer ⌝ }
+{
+    Received {
+        refusal: Refusal::none(),
+        consumed: pushed.consumed,
+        event,
+        identity,
+        place: Place::Piece(0),
+        length: 0,
+        session: next_session(session, state, pushed.parser, held),
+    }
+}
+
+// WAIT keeps the state.
+fn on_wait(session: HostSession, pushed: Pushed) -> Received
+    requires { ⌜ session .«receive_sequence» .0 < lastSequence ⌝ }
+    ensures { λ r. ⌜ r ≡ effect Kind.Wait session (told pushed) .answer ⌝ }
+{
+    let state = session.state;
+    report(
+        session,
+        pushed,
+        HostEvent::Wait,
+        no_identity(),
+        state,
+        session.identity,
+    )
+}
+
+// READY sets the identity.
+fn on_ready(session: HostSession, pushed: Pushed) -> Received
+    requires { ⌜ session .«receive_sequence» .0 < lastSequence ⌝ }
+    ensures { λ r. ⌜ r ≡ effect Kind.Ready session (told pushed) .answer ⌝ }
+{
+    let identity = identity_in(pushed.record);
+    let held = OptionalIdentity {
+        present: true,
+        identity,
+    };
+    report(
+        session,
+        pushed,
+        HostEvent::Attached,
+        identity,
+        HostState::Attached,
+        held,
+    )
+}
+
+// ERROR rejects the host.
+fn on_error(session: HostSession, pushed: Pushed) -> Received
+    requires { ⌜ session .«receive_sequence» .0 < lastSequence ⌝ }
+    ensures { λ r. ⌜ r ≡ effect Kind.Error session (told pushed) .answer ⌝ }
+{
+    report(
+        session,
+        pushed,
+        HostEvent::Rejected,
+        no_identity(),
+        HostState::Rejected,
+        session.identity,
+    )
+}
+
+// RESET reports its identity, and the session keeps its own.
+fn on_reset(session: HostSession, pushed: Pushed) -> Received
+    requires { ⌜ session .«receive_sequence» .0 < lastSequence ⌝ }
+    ensures { λ r. ⌜ r ≡ effect Kind.Reset session (told pushed) .answer ⌝ }
+{
+    let reset = identity_in(pushed.record);
+    report(
+        session,
+        pushed,
+        HostEvent::Reset,
+        reset,
+        HostState::Reset,
+        session.identity,
+    )
+}
+
+// DATA: its bytes are handed out.
+fn on_data(session: HostSession, pushed: Pushed) -> Received
+    requires { ⌜ session .«receive_sequence» .0 < lastSequence ⌝ }
+    ensures { λ r. ⌜ r ≡ effect Kind.Data session (told pushed) .answer ⌝ }
+{
+    let place = pushed.place;
+    let state = session.state;
+    Received {
+        refusal: Refusal::none(),
+        consumed: pushed.consumed,
+        event: HostEvent::Data,
+        identity: no_identity(),
+        place,
+        length: pushed.record.length,
+        session: next_session(session, state, pushed.parser, session.identity),
+    }
+}
+
+// A type that no state allows: 10.
+fn not_allowed(session: HostSession, pushed: Pushed, code: u64) -> Received
+    ensures { λ r. ⌜ r ≡ refused (refusal 10 code 0 0) (withState session State.Failed (pushed .parser)) ⌝ }
+{
+    fail(session, pushed.parser, Refusal::new(10, code, 0, 0))
+}
+
+// What a record does that nothing stops, by its type.
+fn apply_record(session: HostSession, pushed: Pushed) -> Received
+    requires { ⌜ session .«receive_sequence» .0 < lastSequence ⌝ }
+    ensures { λ r. ⌜ r ≡ effect (pushed .«record» .«record_type») session (told pushed) .answer ⌝ }
+{
+    let record = pushed.record;
+    let record_type = record.record_type;
+    match record_type {
+        RecordType::GuestAttach => not_allowed(session, pushed, 1),
+        RecordType::HostAttach => not_allowed(session, pushed, 2),
+        RecordType::Reset => on_reset(session, pushed),
+        RecordType::Ack => not_allowed(session, pushed, 4),
+        RecordType::Data => on_data(session, pushed),
+        RecordType::Wait => on_wait(session, pushed),
+        RecordType::Ready => on_ready(session, pushed),
+        RecordType::Error => on_error(session, pushed),
+        RecordType::Credit => not_allowed(session, pushed, 9),
+    }
+}
+
+// A whole record: what stops it, or what it does.
+fn accept_record(session: HostSession, pushed: Pushed) -> Received
+    ensures { λ r. ⌜ r ≡ accept session (told pushed) .answer ⌝ }
+{
+    let refusal = check_record(session, pushed.record);
+    if refusal.number != 0 {
+        return fail(session, pushed.parser, refusal);
+    }
+    apply_record(session, pushed)
+}
+
+// After the push: its refusal, no record yet, or a whole record.
+fn after_push(session: HostSession, pushed: Pushed) -> Received
+    ensures { λ r. ⌜ r ≡ afterPush session (told pushed) .answer ⌝ }
+{
+    if pushed.refusal.number != 0 {
+        return fail(session, pushed.parser, pushed.refusal);
+    }
+    if pushed.complete {
+        return accept_record(session, pushed);
+    }
+    Received {
+        refusal: Refusal::none(),
+        consumed: pushed.consumed,
+        event: HostEvent::Nothing,
+        identity: no_identity(),
+        place: Place::Piece(0),
+        length: 0,
+        session: with_parser(session, pushed.parser),
+    }
+}
+
+// The session with another parser.
+fn with_parser(mut session: HostSession, parser: RecordParser) -> HostSession
+    ensures { λ r. ⌜ r ≡ withState session (session .state) parser ⌝ }
+{
+    session.parser = parser;
+    session
+}
+
+// A receive of so many payload bytes that leaves the payload unfinished: the commonest case, apart
+// from the others so that it moves little.
+fn keep_waiting(session: HostSession, count: usize) -> Received
+    requires { ⌜ session .parser .«payload_len» + count < 2 ^ 32 ⌝ }
+    ensures { λ r. ⌜ r ≡ afterPush session (told (waiting (session .parser .header) 44 (session .parser .«payload_len» + count) count)) .answer ⌝ }
+{
+    let header = session.parser.header;
+    let parser = RecordParser {
+        header,
+        header_len: OUTER_HEADER_LEN,
+        payload_len: session.parser.payload_len + count,
+        error: Refusal::none(),
+    };
+    Received {
+        refusal: Refusal::none(),
+        consumed: count,
+        event: HostEvent::Nothing,
+        identity: no_identity(),
+        place: Place::Piece(0),
+        length: 0,
+        session: with_parser(session, parser),
+    }
+}
+
+// Takes bytes of the piece up to the end of one record, and reports what the record says.
+pub fn receive(session: HostSession, piece: &[u8], stage: &mut [u8]) -> Received
+    ensures { λ r. ⌜ outcome r (now (stage .exit)) ≡ receiveOf session (now (piece .entry)) (now (stage .entry)) ⌝ }
+{
+    if !session.is_sound() {
+        return refuse(session, Refusal::new(23, 0, 0, 0));
+    }
+    if stage.len() < OUTER_MAX_PAYLOAD {
+        return refuse(session, Refusal::new(21, 0, 0, 0));
+    }
+    let state = session.state;
+    if !is_open(state.number()) {
+        return refuse(session, Refusal::new(20, 0, 0, 0));
+    }
+    if session.parser.stays_open(piece.len()) {
+        copy_at(stage, session.parser.payload_len, piece);
+        return keep_waiting(session, piece.len());
+    }
+    let pushed = push(session.parser, piece, stage);
+    after_push(session, pushed)
+}
+
+// The bytes of DATA that a receive handed out, as a part of the piece or of the stage.
+pub fn payload<'a>(piece: &'a [u8], stage: &'a [u8], place: Place, length: usize) -> &'a [u8]
+    ensures { λ r. ⌜ now r ≡ payloadAt place length (now (piece .entry)) (now (stage .entry)) ⌝ }
+{
+    parser::parser::payload(piece, stage, place, length)
+}
