@@ -24,6 +24,7 @@ ghost use mathlib.Core.List.{[], _∷_};
 ghost use lib.ListN.{length};
 ghost use lib.Dec.{eqb};
 ghost use Rattle.wire.specs.Refusals.{refusal, first, passes};
+ghost use Rattle.wire.specs.Header.{typeOf};
 ghost use Rattle.protocol.specs.Outer.{outcome, windowOk, creditOk};
 ghost use Rattle.types.specs.Types.{codeOf};
 ghost use Rattle.record.specs.Record.{allZero, lengthRow, bootstrapRow, restRows, recordRows, payloadChecks, recordWith, recordOf, headerChecks, parseHeader, encodeRecord};
@@ -193,9 +194,9 @@ pub fn check_header(header: &[u8; 44]) -> Refusal
     check_rest(header, record_type)
 }
 
-// Whether the header is one of DATA that passes the checks.
-fn is_data(header: &[u8; 44]) -> bool
-    ensures { λ r. ⌜ (r ≡ true → passes (headerChecks (now (header .entry))) ≡ true) ⌝ }
+// Whether the header is one of DATA that passes the header checks.
+pub fn is_data(header: &[u8; 44]) -> bool
+    ensures { λ r. ⌜ r ≡ eqb (typeOf (now (header .entry))) 5 && passes (headerChecks (now (header .entry))) ⌝ }
 {
     if fields::magic(header) != u32_from_le_bytes(OUTER_MAGIC) {
         return false;

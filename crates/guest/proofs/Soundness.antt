@@ -2,13 +2,14 @@
 use Prim.Native.Nat.{ℕ, _≤_, _<_}
 use mathlib.Core.Path.{_≡_, sym, ap, _∙_}
 use mathlib.Core.Bool.{Bool, true, false, not, _&&_, _||_}
+use native.Mathlib.Omega.{arith}
 use lib.Dec.{eqb, leb}
-use borrow.Author.Tests.{le-leb, lt-leb, eq-eqb, ne-eqb, leb-true, not-true, not-false}
+use borrow.Author.Tests.{le-leb, lt-leb, eq-eqb, ne-eqb, eqb-true, leb-true, not-true, not-false}
 use Rattle.wire.proofs.Rows.{and-left, and-right}
 use Rattle.parser.specs.Push.{soundParser}
 use Rattle.session.specs.Checks.{holds}
 use Rattle.session.specs.declared.session.OptionalIdentity.{OptionalIdentity}
-use Rattle.guest.specs.State.{code, soundGuest, figuresOk}
+use Rattle.guest.specs.State.{code, soundGuest, activeGuest, figuresOk}
 use Rattle.guest.specs.declared.guest.GuestSession.{GuestSession}
 
 module _ (s : ℕ) (i : OptionalIdentity) where
@@ -56,6 +57,53 @@ module _ (g : GuestSession) (b : Bool) (eb : b ≡ soundParser (g .parser)) wher
       ∙ ap (λ (t : Bool). t && figuresOk (code (g .state)) (g .window) (g .outstanding) (g .identity)) (sym (not-false b n) ∙ eb)
 
 pub ruleset sounding = (sound-parser, sound-figures)
+
+-- ---- an Active session
+module _ (g : GuestSession) (k : ℕ) (ek : k ≡ code (g .state)) where
+  pub active-not : (k ≡ 3 → ⊥) → false ≡ activeGuest g
+  unfolding activeGuest
+  active-not n = simp (← ek, ne-eqb k 3 n)
+
+  module _ (e : k ≡ 3) where
+    active-figures : figuresOk 3 (g .window) (g .outstanding) (g .identity) ≡ activeGuest g
+    unfolding activeGuest
+    active-figures =
+        let three : code (g .state) ≡ 3 = sym ek ∙ e in
+        simp (eq-eqb (code (g .state)) 3 three) (ap (λ (j : ℕ). figuresOk j (g .window) (g .outstanding) (g .identity)) (sym three))
+
+    pub active-above : g .window < g .outstanding → false ≡ activeGuest g
+    active-above h = figures-above 3 (g .window) (g .outstanding) (g .identity) h ∙ active-figures
+
+    module _ (h : g .outstanding ≤ g .window) where
+      pub active-wide : 4194314 < g .window → false ≡ activeGuest g
+      active-wide w = figures-wide 3 (g .window) (g .outstanding) (g .identity) h w ∙ active-figures
+
+      pub active-held : (b : Bool) → g .window ≤ 4194314 → b ≡ holds (g .identity) → b ≡ activeGuest g
+      active-held b w q = figures-rest 3 (g .window) (g .outstanding) (g .identity) h w b (λ z. omega arith) q ∙ active-figures
+
+pub ruleset activity = (active-not, active-above, active-wide, active-held)
+
+-- what is known of a session that is Active with a clear parser
+module _ (g : GuestSession) (a : activeGuest g ≡ true) where
+  pub active-state : code (g .state) ≡ 3
+  unfolding activeGuest
+  active-state = eqb-true (code (g .state)) 3 (and-left (eqb (code (g .state)) 3) (figuresOk (code (g .state)) (g .window) (g .outstanding) (g .identity)) a)
+
+  pub active-low : g .outstanding ≤ g .window
+  unfolding activeGuest
+  active-low =
+      leb-true (g .outstanding) (g .window)
+      (and-left (leb (g .outstanding) (g .window)) _ (and-right (eqb (code (g .state)) 3) (figuresOk (code (g .state)) (g .window) (g .outstanding) (g .identity)) a))
+
+  pub active-window : g .window ≤ 4194314
+  unfolding activeGuest
+  active-window =
+      leb-true (g .window) 4194314
+      (and-left (leb (g .window) 4194314) _ (and-right (leb (g .outstanding) (g .window)) _ (and-right (eqb (code (g .state)) 3) (figuresOk (code (g .state)) (g .window) (g .outstanding) (g .identity)) a)))
+
+  pub active-sound : soundParser (g .parser) ≡ true → soundGuest g ≡ true
+  unfolding activeGuest soundGuest
+  active-sound p = simp (p, and-right (eqb (code (g .state)) 3) (figuresOk (code (g .state)) (g .window) (g .outstanding) (g .identity)) a)
 
 -- what a sound session tells
 module _ (g : GuestSession) (e : soundGuest g ≡ true) where

@@ -68,6 +68,10 @@ figuresOk state window outstanding identity =
 unfoldable pub soundGuest : GuestSession → Bool
 soundGuest g = soundParser (g .parser) && figuresOk (code (g .state)) (g .window) (g .outstanding) (g .identity)
 
+-- Active, and sound but for its parser
+unfoldable pub activeGuest : GuestSession → Bool
+activeGuest g = isActive (g .state) && figuresOk (code (g .state)) (g .window) (g .outstanding) (g .identity)
+
 -- ---- sessions after a call
 -- another state and parser, all else unchanged
 abbrev pub withState : GuestSession → GuestState → RecordParser → GuestSession

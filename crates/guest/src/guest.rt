@@ -11,7 +11,7 @@ ghost use mathlib.Core.Path.{_≡_};
 ghost use mathlib.Core.Bool.{not, _&&_, _||_};
 ghost use lib.Dec.{leb};
 ghost use Rattle.session.specs.Checks.{holds};
-ghost use Rattle.guest.specs.State.{code, freshGuest, soundGuest, figuresOk, withState};
+ghost use Rattle.guest.specs.State.{code, freshGuest, soundGuest, activeGuest, figuresOk, withState};
 ghost use Rattle.guest.specs.Asks.{stateOf, identityOf, windowOf, noWindow, outstandingOf, neededBy};
 
 // State of the guest's session.
@@ -148,6 +148,24 @@ impl GuestSession {
         }
         let state = self.state;
         figures_ok(state.number(), self.window, self.outstanding, self.identity)
+    }
+
+    // Whether the session is Active, and sound but for its parser: the commonest sessions, told by
+    // few tests.
+    pub fn is_active(self) -> bool
+        ensures { λ r. ⌜ r ≡ activeGuest self ⌝ }
+    {
+        let state = self.state;
+        if state.number() != 3 {
+            return false;
+        }
+        if self.window < self.outstanding {
+            return false;
+        }
+        if OUTER_MAX_RECEIVE_WINDOW < self.window {
+            return false;
+        }
+        self.identity.is_held()
     }
 
     // The session in another state with another parser.

@@ -4,9 +4,10 @@ use mathlib.Core.Path.{_≡_, refl, sym, ap, _∙_}
 use mathlib.Core.Bool.{Bool, true, false, not, _&&_}
 use mathlib.Core.List.{List, [], _∷_, _++_}
 use native.Mathlib.Omega.{arith}
+use native.Mathlib.Decide.{ℕ-discrete}
 use lib.ListN.{length, take, replicate, length-take}
 use lib.Dec.{eqb, leb, ltb}
-use borrow.Author.Tests.{le-leb, lt-leb, eq-eqb, ne-eqb, leb-true, leb-false, not-true, not-false}
+use borrow.Author.Tests.{le-leb, lt-leb, eq-eqb, ne-eqb, eqb-true, eqb-false, leb-true, leb-false, not-true, not-false}
 use Rattle.wire.specs.Bytes.{toLe, overlay}
 use Rattle.wire.specs.Refusals.{pick, refusal, none, first, passes}
 use Rattle.protocol.specs.Outer.{windowOk, creditOk, valueOf, write, roomRow}
@@ -14,11 +15,11 @@ use Rattle.protocol.specs.Outer as outer
 use Rattle.wire.specs.declared.refusal.Refusal.{Refusal}
 use Rattle.protocol.specs.declared.outer.Written.{Written}
 use Rattle.wire.proofs.Numbers.{from-to, length-to}
-use Rattle.wire.proofs.Rows.{passed, and-left, and-right, row-stops, row-passes, no-rows, rows-stop, rows-pass}
+use Rattle.wire.proofs.Rows.{picked, passed, pass-all, and-left, and-right, row-stops, row-passes, no-rows, rows-stop, rows-pass}
 use Rattle.protocol.proofs.Writes.{write-stops, write-done}
 use Rattle.types.specs.Types.{lengthOk}
 use Rattle.record.specs.Record.{allZero, encodeRows, recordBytes, encodeRecord}
-use Rattle.parser.specs.Push.{bufferedOf, counted}
+use Rattle.parser.specs.Push.{soundParser, clear, bufferedOf, counted}
 use Rattle.parser.specs.declared.parser.Count.{Count}
 use Rattle.session.specs.Checks.{lastSequence, nextRow}
 use Rattle.session.specs.Writes.{identityBytes, nextRows, encodeNext, encodeData}
@@ -26,13 +27,13 @@ use Rattle.session.specs.Writes as writing
 use Rattle.session.specs.declared.session.Identity.{Identity}
 use Rattle.session.specs.declared.session.Encoded.{Encoded}
 use Rattle.session.proofs.Cases.{encoded-stops, encoded-done}
-use Rattle.guest.specs.State.{code, soundGuest, withState, ackGuest, withSent, sentGuest}
-use Rattle.guest_calls.specs.Calls.{soundRow, outcome, notSent, sentRecord, writes, attachRows, attach, ackRows, acknowledge, sendCount, sendRows, send, writeRows, credit, disconnect}
+use Rattle.guest.specs.State.{code, soundGuest, activeGuest, withState, ackGuest, withSent, sentGuest}
+use Rattle.guest_calls.specs.Calls.{soundRow, outcome, notSent, sentRecord, writes, attachRows, attach, ackRows, acknowledge, sendCount, sendRows, send, encoding, writeRows, credit, disconnect}
 use Rattle.guest.specs.declared.guest.GuestState.the-variants as State
 use Rattle.guest.specs.declared.guest.GuestSession.{GuestSession}
 use Rattle.guest_calls.specs.declared.Sent.{Sent}
 use Rattle.guest_calls.specs.declared.Closed.{Closed}
-use Rattle.guest.proofs.Soundness.{outstanding-low, window-low, sound-inside}
+use Rattle.guest.proofs.Soundness.{active-state, active-sound, outstanding-low, window-low, sound-inside}
 
 -- ---- calls that write, in general
 module _ (v : Refusal) (g after : GuestSession) (count : ℕ) (bytes o : List ℕ) (at : ℕ) (r : Sent) where
@@ -220,7 +221,7 @@ module _ (g : GuestSession) (bs o : List ℕ) (at : ℕ) (r : Sent) (x : Refusal
   abbrev sentBytes : List ℕ
   sentBytes = identityBytes 5 (g .identity .identity) (g .«send_sequence» .0) (take (sendCount bs) bs)
 
-  pub send-stops : (x .number ≡ 0 → ⊥) → r ≡ notSent x g → outcome r o ≡ send g bs o at
+  send-stops : (x .number ≡ 0 → ⊥) → r ≡ notSent x g → outcome r o ≡ send g bs o at
   unfolding send
   send-stops = call-stops g (sentGuest g (g .outstanding)) (sendCount bs) sentBytes o at r 3 (sendRest g bs o at) x ex
 
@@ -229,13 +230,89 @@ module _ (g : GuestSession) (bs o : List ℕ) (at : ℕ) (r : Sent) (x : Refusal
     send-told : first (nextRows 5 (g .identity .identity) (g .«send_sequence» .0) (take (sendCount bs) bs) o at) ≡ first (sendRows g bs o at)
     send-told = goes-on g 3 x ex z (sendRest g bs o at) _ (send-rows g bs o at)
 
-    pub send-refused : (u .refusal .number ≡ 0 → ⊥) → r ≡ notSent (u .refusal) g → outcome r o2 ≡ send g bs o at
+    send-refused : (u .refusal .number ≡ 0 → ⊥) → r ≡ notSent (u .refusal) g → outcome r o2 ≡ send g bs o at
     unfolding send
     send-refused n er = next-stops 5 g (g .outstanding) (sendCount bs) (take (sendCount bs) bs) o at _ r u o2 send-told eu n er
 
-    pub send-done : (s : GuestSession) → u .refusal .number ≡ 0 → s ≡ withSent g (u .sequence .0) (g .outstanding) → r ≡ sentRecord (u .count) (u .next) s → outcome r o2 ≡ send g bs o at
+    send-done : (s : GuestSession) → u .refusal .number ≡ 0 → s ≡ withSent g (u .sequence .0) (g .outstanding) → r ≡ sentRecord (u .count) (u .next) s → outcome r o2 ≡ send g bs o at
     unfolding send
     send-done s n es er = next-does 5 g (g .outstanding) (sendCount bs) (take (sendCount bs) bs) o at _ r u o2 send-told eu s (u .count) n refl es er
+
+-- what an encoder of the next record answers with no refusal, and with one
+module _ (t : ℕ) (i : Identity) (s count : ℕ) (p o o2 : List ℕ) (at : ℕ) (u : Encoded) (e : writing.outcome u o2 ≡ encodeNext t i s count p o at) where
+  encoded-none : u .refusal .number ≡ 0 → u .refusal ≡ none
+  unfolding encodeNext
+  encoded-none n =
+      picked (λ (x : writing.Outcome). writing.outcome u o2 ≡ x → u .refusal ≡ none) (passes (first (nextRows t i s p o at)))
+      (λ _ q. ap (λ (x : writing.Outcome). x .encoded .refusal) q)
+      (λ f q. absurd (eqb-false (first (nextRows t i s p o at) .number) 0 f (sym (ap (λ (x : writing.Outcome). x .encoded .refusal .number) q) ∙ n)))
+      e
+
+  encoded-not : (u .refusal .number ≡ 0 → ⊥) → u ≡ writing.notEncoded (u .refusal) s
+  unfolding encodeNext
+  encoded-not n =
+      picked (λ (x : writing.Outcome). writing.outcome u o2 ≡ x → u ≡ writing.notEncoded (u .refusal) s) (passes (first (nextRows t i s p o at)))
+      (λ _ q. absurd (n (ap (λ (x : writing.Outcome). x .encoded .refusal .number) q)))
+      (λ _ q.
+      let eu : u ≡ writing.notEncoded (first (nextRows t i s p o at)) s = ap (λ (x : writing.Outcome). x .encoded) q in
+      eu ∙ ap (λ (y : Refusal). writing.notEncoded y s) (sym (ap (λ (w : Encoded). w .refusal) eu)))
+      e
+
+-- what a send encodes
+module _ (g : GuestSession) (bs o : List ℕ) (at : ℕ) (u : Encoded) where
+  pub encoding-stops : (x : Refusal) → x ≡ first (begin g 3) → (x .number ≡ 0 → ⊥) → u ≡ writing.notEncoded x (g .«send_sequence» .0) → writing.outcome u o ≡ encoding g bs o at
+  unfolding encoding
+  encoding-stops x ex n eu =
+      let f : passes (first (begin g 3)) ≡ false = ap passes (sym ex) ∙ ne-eqb (x .number) 0 n in
+      simp f (ap (λ (w : Encoded). writing.outcome w o) (eu ∙ ap (λ (y : Refusal). writing.notEncoded y (g .«send_sequence» .0)) ex))
+
+  encoding-goes : (o2 : List ℕ) → passes (first (begin g 3)) ≡ true → writing.outcome u o2 ≡ encodeData (g .identity .identity) (g .«send_sequence» .0) bs o at → writing.outcome u o2 ≡ encoding g bs o at
+  unfolding encoding
+  encoding-goes o2 f e = simp f e
+
+  pub encoding-passes : (x : Refusal) (o2 : List ℕ) → x ≡ first (begin g 3) → x .number ≡ 0 → writing.outcome u o2 ≡ encodeData (g .identity .identity) (g .«send_sequence» .0) bs o at
+      → writing.outcome u o2 ≡ encoding g bs o at
+  encoding-passes x o2 ex z e = encoding-goes o2 (ap passes (sym ex) ∙ eq-eqb (x .number) 0 z) e
+
+  pub encoding-clear : (a p : Bool) (o2 : List ℕ) → a ≡ activeGuest g → a ≡ true → p ≡ clear (g .parser) → p ≡ true
+      → writing.outcome u o2 ≡ encodeData (g .identity .identity) (g .«send_sequence» .0) bs o at → writing.outcome u o2 ≡ encoding g bs o at
+  unfolding clear
+  encoding-clear a p o2 ea ta ep tp e =
+      let active : activeGuest g ≡ true = sym ea ∙ ta in
+      let sound : soundParser (g .parser) ≡ true = and-left (soundParser (g .parser)) _ (sym ep ∙ tp) in
+      encoding-goes o2 (pass-all (begin g 3) (active-sound g active sound, (eq-eqb (code (g .state)) 3 (active-state g active), tt))) e
+
+-- the session takes the sequence that was encoded
+module _ (g : GuestSession) (bs o : List ℕ) (at : ℕ) (u : Encoded) (o2 : List ℕ) where
+  abbrev taken : Sent
+  taken = record { refusal = u .refusal; count = u .count; next = u .next; session = withSent g (u .sequence .0) (g .outstanding) }
+
+  not-taken : (x : Refusal) → u ≡ writing.notEncoded x (g .«send_sequence» .0) → taken ≡ notSent (u .refusal) g
+  not-taken x e =
+      λ j. record { refusal = u .refusal; count = e j .count; next = e j .next; session = withSent g (e j .sequence .0) (g .outstanding) }
+
+  pub send-encoded : writing.outcome u o2 ≡ encoding g bs o at → outcome taken o2 ≡ send g bs o at
+  unfolding encoding
+  send-encoded e = go (passes (first (begin g 3))) refl e
+    where
+      go : (c : Bool) → passes (first (begin g 3)) ≡ c
+          → writing.outcome u o2 ≡ pick c (encodeData (g .identity .identity) (g .«send_sequence» .0) bs o at) (writing.outcome (writing.notEncoded (first (begin g 3)) (g .«send_sequence» .0)) o)
+          → outcome taken o2 ≡ send g bs o at
+      go false f q =
+          let eu : u ≡ writing.notEncoded (first (begin g 3)) (g .«send_sequence» .0) = ap (λ (w : writing.Outcome). w .encoded) q in
+          let n : first (begin g 3) .number ≡ 0 → ⊥ = eqb-false (first (begin g 3) .number) 0 f in
+          ap (outcome taken) (ap (λ (w : writing.Outcome). w .output) q)
+          ∙ send-stops g bs o at taken (first (begin g 3)) refl n (not-taken (first (begin g 3)) eu ∙ ap (λ (y : Refusal). notSent y g) (ap (λ (w : Encoded). w .refusal) eu))
+      go true f q = by (ℕ-discrete (u .refusal .number) 0)
+        where
+          z : first (begin g 3) .number ≡ 0
+          z = eqb-true (first (begin g 3) .number) 0 f
+
+          by : Dec (u .refusal .number ≡ 0) → outcome taken o2 ≡ send g bs o at
+          by (yes n) =
+              send-done g bs o at taken (first (begin g 3)) refl z u o2 q (withSent g (u .sequence .0) (g .outstanding)) n refl
+              (λ j. record { refusal = encoded-none 5 (g .identity .identity) (g .«send_sequence» .0) (sendCount bs) (take (sendCount bs) bs) o o2 at u q n j; count = u .count; next = u .next; session = withSent g (u .sequence .0) (g .outstanding) })
+          by (no n) = send-refused g bs o at taken (first (begin g 3)) refl z u o2 q n (not-taken (u .refusal) (encoded-not 5 (g .identity .identity) (g .«send_sequence» .0) (sendCount bs) (take (sendCount bs) bs) o o2 at u q n))
 
 -- ---- credit
 pub covered-none : (n o : ℕ) → n < 1 → false ≡ leb 1 n && leb n o

@@ -11,7 +11,8 @@ use Rattle.wire.specs.declared.refusal.Refusal.{Refusal}
 use Rattle.record.specs.Record.{recordBytes}
 use Rattle.parser.specs.Push.{bufferedOf}
 use Rattle.session.specs.Checks.{nextRow}
-use Rattle.session.specs.Writes.{identityBytes}
+use Rattle.session.specs.Writes.{identityBytes, notEncoded, encodeData}
+use Rattle.session.specs.Writes as writing
 use Rattle.guest.specs.State.{isDetached, isResetting, isActive, isEnded, soundGuest, withState, ackGuest, sentGuest}
 use Rattle.guest.specs.declared.guest.GuestState.the-variants as State
 use Rattle.guest.specs.declared.guest.GuestSession.{GuestSession}
@@ -76,6 +77,14 @@ unfoldable pub send : GuestSession → List ℕ → List ℕ → ℕ → Outcome
 send g bytes o at =
     writes (first (sendRows g bytes o at)) g (sentGuest g (g .outstanding)) (sendCount bytes)
     (identityBytes 5 (g .identity .identity) (g .«send_sequence» .0) (take (sendCount bytes) bytes)) o at
+
+-- what a send encodes: 23, 20, then the encoder of the next record
+unfoldable pub encoding : GuestSession → List ℕ → List ℕ → ℕ → writing.Outcome
+encoding g bytes o at =
+    let r : Refusal = first (soundRow g ∷ (isActive (g .state), refusal 20 0 0 0) ∷ []) in
+    pick (passes r)
+    (encodeData (g .identity .identity) (g .«send_sequence» .0) bytes o at)
+    (writing.outcome (notEncoded r (g .«send_sequence» .0)) o)
 
 -- a CREDIT's last two: 16 (a 9); 22
 abbrev pub writeRows : GuestSession → List ℕ → ℕ → List (Bool × Refusal)

@@ -4,6 +4,7 @@ use codec::encode_record;
 use guest::guest::GuestSession;
 use guest::guest::GuestState;
 use protocol::outer::Written;
+use session::session::Encoded;
 use session::session::Identity;
 use session::session::encode_data;
 use session::session::encode_next;
@@ -24,8 +25,9 @@ ghost use Rattle.protocol.specs.Outer as outer;
 ghost use Rattle.protocol.specs.Outer.{creditOk};
 ghost use Rattle.record.specs.Record.{encodeRecord};
 ghost use Rattle.session.specs.Writes.{identityBytes};
+ghost use Rattle.session.specs.Writes as writing;
 ghost use Rattle.guest.specs.State.{ackGuest, withSent, sentGuest};
-ghost use Rattle.guest_calls.specs.Calls.{outcome, notSent, sentRecord, writes, writeRows};
+ghost use Rattle.guest_calls.specs.Calls.{outcome, notSent, sentRecord, writes, encoding, writeRows};
 ghost use Rattle.guest_calls.specs.Calls as calls;
 
 // What a call that writes answers: the bytes of data taken by `send`, else 0, and the position
@@ -215,30 +217,64 @@ pub fn acknowledge(session: GuestSession, window: u32, output: &mut [u8], at: us
     record_sent(0, written.next, acknowledged(session, window))
 }
 
-// Writes a DATA record of at most the first 65,536 bytes, and says how many it took.
-pub fn send(session: GuestSession, bytes: &[u8], output: &mut [u8], at: usize) -> Sent
-    ensures { λ r. ⌜ outcome r (now (output .exit)) ≡ calls.send session (now (bytes .entry)) (now (output .entry)) at ⌝ }
+// Any send: 23, 20, then the DATA record.
+fn encode_any(session: GuestSession, bytes: &[u8], output: &mut [u8], at: usize) -> Encoded
+    ensures { λ r. ⌜ writing.outcome r (now (output .exit)) ≡ encoding session (now (bytes .entry)) (now (output .entry)) at ⌝ }
 {
     let held = session.state;
     let refusal = stopped(session.is_sound(), held.number(), 3);
     if refusal.number != 0 {
-        return not_sent(session, refusal);
+        let sequence = session.send_sequence;
+        return Encoded {
+            refusal,
+            count: 0,
+            next: 0,
+            sequence,
+        };
     }
-    let encoded = encode_data(
+    encode_data(
         session.identity.identity,
         session.send_sequence,
         bytes,
         output,
         at,
-    );
-    if encoded.refusal.number != 0 {
-        return not_sent(session, encoded.refusal);
-    }
-    record_sent(
-        encoded.count,
-        encoded.next,
-        sent_session(session, encoded.sequence, session.outstanding),
     )
+}
+
+// The DATA record of a send. A session that is plainly sound and Active is not moved for the test.
+fn encode_sent(session: GuestSession, bytes: &[u8], output: &mut [u8], at: usize) -> Encoded
+    ensures { λ r. ⌜ writing.outcome r (now (output .exit)) ≡ encoding session (now (bytes .entry)) (now (output .entry)) at ⌝ }
+{
+    if session.is_active() {
+        if session.parser.is_clear() {
+            return encode_data(
+                session.identity.identity,
+                session.send_sequence,
+                bytes,
+                output,
+                at,
+            );
+        }
+    }
+    let whole = session;
+    encode_any(whole, bytes, output, at)
+}
+
+// Writes a DATA record of at most the first 65,536 bytes, and says how many it took. Of the session
+// only the sequence changes, and a refusal leaves that too.
+pub fn send(mut session: GuestSession, bytes: &[u8], output: &mut [u8], at: usize) -> Sent
+    ensures { λ r. ⌜ outcome r (now (output .exit)) ≡ calls.send session (now (bytes .entry)) (now (output .entry)) at ⌝ }
+{
+    let encoded = encode_sent(session, bytes, output, at);
+    let refusal = encoded.refusal;
+    let send_sequence = encoded.sequence;
+    session.send_sequence = send_sequence;
+    Sent {
+        refusal,
+        count: encoded.count,
+        next: encoded.next,
+        session,
+    }
 }
 
 // Writes a CREDIT record: returns consumed bytes to the window.

@@ -1,7 +1,7 @@
 -- The cases of the parser's rules, a law for each `return` of the code: what was tested there, and what is answered. Assumes nothing.
 use Prim.Native.Nat.{ℕ, _+_, _-_, _^_, _≤_, _<_, min}
 use mathlib.Core.Path.{_≡_, refl, sym, ap, ap₂, _∙_}
-use mathlib.Core.Bool.{Bool, true, false, not, _&&_, _||_, and-false}
+use mathlib.Core.Bool.{Bool, true, false, not, _&&_, _||_, and-false, and-true}
 use mathlib.Core.List.{List, [], _∷_, _++_, append-nil}
 use native.Mathlib.Omega.{arith}
 use native.Mathlib.Decide.{ℕ-discrete, decLt}
@@ -28,7 +28,7 @@ use Rattle.parser.specs.declared.parser.Place.{Place}
 use Rattle.parser.specs.declared.parser.Place.the-variants.{Piece, Stage}
 use Rattle.parser.specs.declared.parser.Pushed.{Pushed}
 use Rattle.parser.specs.declared.parser.Count.{Count}
-use Rattle.parser.specs.Push.{parserOf, fresh, countsOk, errorOk, soundParser, Push, stopped, waiting, failed, completed, finish, bodyTaken, pushBody, headTaken, headWith, pushHead, pushRows, push}
+use Rattle.parser.specs.Push.{parserOf, fresh, countsOk, errorOk, soundParser, clear, Push, stopped, waiting, failed, completed, finish, bodyTaken, pushBody, headTaken, headWith, pushHead, pushRows, push}
 use Rattle.parser.specs.Push.{bodyStage, headStage, pushStage, heldIn, Outcome, outcome, pushOf, payloadAt, neededOf, bufferedOf, counted}
 use Rattle.parser.proofs.Parts.{part-end, overlay-nothing, take-none}
 
@@ -79,6 +79,52 @@ module _ (p : RecordParser) (b : Bool) (eb : b ≡ countsOk (p .header) (p .«he
   sound-error e n q = simp (soundParser, ← eb, not-false b n) q
 
 pub ruleset sounding = (sound-not, sound-error)
+
+-- ---- a clear parser
+both-not : (a b c : Bool) → b && c ≡ false → (c && a) && b ≡ false
+both-not true true true e = e
+both-not true true false e = refl
+both-not true false true e = refl
+both-not true false false e = refl
+both-not false true true e = refl
+both-not false true false e = refl
+both-not false false true e = refl
+both-not false false false e = refl
+
+module _ (p : RecordParser) where
+  pub clear-error : (p .error .number ≡ 0 → ⊥) → false ≡ clear p
+  unfolding clear
+  clear-error n = simp (ne-eqb (p .error .number) 0 n, and-false)
+
+  module _ (z : p .error .number ≡ 0) where
+    clear-counts : clear p ≡ countsOk (p .header) (p .«header_len») (p .«payload_len») && (not (eqb (p .«header_len») 44) || eqb (typeOf (p .header)) 5)
+    unfolding clear soundParser errorOk
+    clear-counts = simp (eq-eqb (p .error .number) 0 z, and-true)
+
+    pub clear-filling : p .«header_len» < 44 → eqb (p .«payload_len») 0 ≡ clear p
+    clear-filling l =
+        let n : p .«header_len» ≡ 44 → ⊥ = λ e. omega arith in
+        sym (clear-counts ∙ simp (← counts-filling (p .header) (p .«header_len») (p .«payload_len») n l, ne-eqb (p .«header_len») 44 n, and-true))
+
+    pub clear-over : 44 ≤ p .«header_len» → (p .«header_len» ≡ 44 → ⊥) → false ≡ clear p
+    clear-over l n = sym (clear-counts ∙ simp (← counts-over (p .header) (p .«header_len») (p .«payload_len») n l))
+
+    module _ (b : Bool) (full : p .«header_len» ≡ 44) (eb : b ≡ eqb (typeOf (p .header)) 5 && passes (headerChecks (p .header))) where
+      clear-full : clear p ≡ (passes (headerChecks (p .header)) && ltb (p .«payload_len») (lengthOf (p .header))) && eqb (typeOf (p .header)) 5
+      unfolding countsOk
+      clear-full = clear-counts ∙ simp (eq-eqb (p .«header_len») 44 full)
+
+      pub clear-other : not b ≡ true → false ≡ clear p
+      clear-other n =
+          sym (clear-full ∙ both-not (ltb (p .«payload_len») (lengthOf (p .header))) (eqb (typeOf (p .header)) 5) (passes (headerChecks (p .header))) (sym eb ∙ not-true b n))
+
+      pub clear-held : (m : ℕ) → not b ≡ false → m ≡ lengthOf (p .header) → ltb (p .«payload_len») m ≡ clear p
+      clear-held m n em =
+          let both : eqb (typeOf (p .header)) 5 && passes (headerChecks (p .header)) ≡ true = sym eb ∙ not-false b n in
+          ap (ltb (p .«payload_len»)) em
+          ∙ sym (clear-full ∙ simp (and-left (eqb (typeOf (p .header)) 5) (passes (headerChecks (p .header))) both, and-right (eqb (typeOf (p .header)) 5) (passes (headerChecks (p .header))) both, and-true))
+
+pub ruleset clearing = (clear-error, clear-filling, clear-over, clear-other, clear-held)
 
 -- ---- answers
 pub stop-is : (p : RecordParser) (x : Refusal) (r : Record) → r ≡ noRecord
@@ -235,9 +281,6 @@ payload-stage place size piece stage l e q = rw e q
 pub ruleset paying = (payload-piece, payload-stage)
 
 -- ---- the header step
-pub fill-is : (h r : List ℕ) (at : ℕ) (s : List ℕ) → length h ≡ 44 → at + length s ≤ 44 → r ≡ copied h at s → r ≡ overlay h at s
-fill-is h r at s size fits e = e ∙ copied-fits h at s (omega arith)
-
 pub header-passes : (h : List ℕ) (b : Bool) → b ≡ passes (headerChecks h) → not b ≡ false → passes (headerChecks h) ≡ true
 header-passes h b eb n = sym eb ∙ not-false b n
 
@@ -257,50 +300,50 @@ module _ (h : List ℕ) (k : ℕ) (rest : List ℕ) (from : ℕ) (stage : List �
 
 pub ruleset checking = (checked-fails, checked-passes)
 
-module _ (head piece stage : List ℕ) (had k n : ℕ) (b : List ℕ) (u : Pushed) (en : n ≡ min (44 - had) (length piece)) (eb : b ≡ overlay head had (take (n - 0) (drop 0 piece))) where
-  bytes-are : b ≡ headWith head had piece
+-- a header with the bytes of a piece that are its own
+module _ (head piece : List ℕ) (had n : ℕ) (b : List ℕ) (size : length head ≡ 44) (low : had ≤ 44) (en : n ≡ min (44 - had) (length piece))
+    (eb : b ≡ copied head had (take (n - 0) (drop 0 piece))) where
+  pub bytes-are : b ≡ headWith head had piece
   unfolding headWith
-  bytes-are = let z : n - 0 ≡ n = omega arith in eb ∙ ap (λ (j : ℕ). overlay head had (take j piece)) (z ∙ en)
+  bytes-are =
+      let z : n - 0 ≡ n = omega arith in
+      let m : length (take (n - 0) (drop 0 piece)) ≡ n = length-take (n - 0) piece ∙ omega arith in
+      eb ∙ copied-fits head had (take (n - 0) (drop 0 piece)) (omega arith) ∙ ap (λ (j : ℕ). overlay head had (take j piece)) (z ∙ en)
 
-  pub head-waits : had + n < 44 → u ≡ waiting b (had + n) 0 n → outcome u stage ≡ outcome (pushHead head had k (take k stage) piece .answer) (headStage head had k piece stage)
-  unfolding pushHead headStage
-  head-waits l eu =
-      let w : had + headTaken had piece < 44 = omega arith in
-      simp (lt-ltb (had + headTaken had piece) 44 w)
-      (ap (λ (w : Pushed). outcome w stage) (eu ∙ (λ j. waiting (bytes-are j) (had + en j) 0 (en j))))
+  pub head-room : (k : ℕ) → k ≤ lengthOf (headWith head had piece) → k ≤ lengthOf b
+  head-room k l = rw bytes-are l
 
-  pub head-checked : (st : List ℕ) → 44 ≤ had + n → outcome u st ≡ after44 b k (take (length piece - n) (drop n piece)) n stage
-      → outcome u st ≡ outcome (pushHead head had k (take k stage) piece .answer) (headStage head had k piece stage)
-  unfolding pushHead headStage
-  head-checked st l q =
-      let w : 44 ≤ had + headTaken had piece = omega arith in
-      simp (le-ltb (had + headTaken had piece) 44 w)
-      (q
-      ∙ (λ j. after44 (bytes-are j) k (part-end n piece j) n stage)
-      ∙ (λ j. after44 (headWith head had piece) k (drop (en j) piece) (en j) stage)
-      ∙ split (passes (headerChecks (headWith head had piece))))
-    where
-      h : List ℕ
-      h = headWith head had piece
+module _ (head piece : List ℕ) (had n : ℕ) (b : List ℕ) (en : n ≡ min (44 - had) (length piece)) (eh : b ≡ headWith head had piece) where
+  module _ (stage : List ℕ) (k : ℕ) (u : Pushed) where
+    pub head-waits : had + n < 44 → u ≡ waiting b (had + n) 0 n → outcome u stage ≡ outcome (pushHead head had k (take k stage) piece .answer) (headStage head had k piece stage)
+    unfolding pushHead headStage
+    head-waits l eu =
+        let w : had + headTaken had piece < 44 = omega arith in
+        simp (lt-ltb (had + headTaken had piece) 44 w)
+        (ap (λ (w : Pushed). outcome w stage) (eu ∙ (λ j. waiting (eh j) (had + en j) 0 (en j))))
 
-      t : ℕ
-      t = headTaken had piece
+    pub head-checked : (st : List ℕ) → 44 ≤ had + n → outcome u st ≡ after44 b k (take (length piece - n) (drop n piece)) n stage
+        → outcome u st ≡ outcome (pushHead head had k (take k stage) piece .answer) (headStage head had k piece stage)
+    unfolding pushHead headStage
+    head-checked st l q =
+        let w : 44 ≤ had + headTaken had piece = omega arith in
+        simp (le-ltb (had + headTaken had piece) 44 w)
+        (q
+        ∙ (λ j. after44 (eh j) k (part-end n piece j) n stage)
+        ∙ (λ j. after44 (headWith head had piece) k (drop (en j) piece) (en j) stage)
+        ∙ split (passes (headerChecks (headWith head had piece))))
+      where
+        h : List ℕ
+        h = headWith head had piece
 
-      split : (c : Bool)
-          → pick c (outcome (pushBody h k (take k stage) (drop t piece) t .answer) (bodyStage h k (drop t piece) stage)) (outcome (failed h (headerChecks h)) stage)
-          ≡ outcome (pick c (pushBody h k (take k stage) (drop t piece) t) (record { answer = failed h (headerChecks h); held = []; payload = [] }) .answer) (pick c (bodyStage h k (drop t piece) stage) stage)
-      split true = refl
-      split false = refl
+        t : ℕ
+        t = headTaken had piece
 
-pub ruleset heading = (head-waits, head-checked)
-
-pub head-room : (head piece : List ℕ) (had k n : ℕ) (b : List ℕ) → n ≡ min (44 - had) (length piece) → b ≡ overlay head had (take (n - 0) (drop 0 piece))
-    → k ≤ lengthOf (headWith head had piece) → k ≤ lengthOf b
-unfolding headWith
-head-room head piece had k n b en eb l =
-    let z : n - 0 ≡ n = omega arith in
-    let e : b ≡ overlay head had (take (headTaken had piece) piece) = eb ∙ ap (λ (j : ℕ). overlay head had (take j piece)) (z ∙ en) in
-    rw e l
+        split : (c : Bool)
+            → pick c (outcome (pushBody h k (take k stage) (drop t piece) t .answer) (bodyStage h k (drop t piece) stage)) (outcome (failed h (headerChecks h)) stage)
+            ≡ outcome (pick c (pushBody h k (take k stage) (drop t piece) t) (record { answer = failed h (headerChecks h); held = []; payload = [] }) .answer) (pick c (bodyStage h k (drop t piece) stage) stage)
+        split true = refl
+        split false = refl
 
 -- ---- what soundness tells
 -- the counts of a sound parser: a held header with payload bytes to come, or header bytes alone

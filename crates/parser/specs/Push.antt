@@ -1,7 +1,7 @@
 -- The parser's rules (01, "Parser"). What a push answers depends on the stage only by its length and by `held`, the payload bytes that
 -- have come: the first `payload_len` bytes of the stage. What a push leaves in the stage is a rule of its own, `pushStage`.
 use Prim.Native.Nat.{ℕ, _+_, _-_, min}
-use mathlib.Core.Bool.{Bool, true, false, _&&_, _||_}
+use mathlib.Core.Bool.{Bool, true, false, not, _&&_, _||_}
 use mathlib.Core.List.{List, [], _∷_, _++_}
 use lib.ListN.{length, take, drop, replicate}
 use lib.Dec.{eqb, leb, ltb}
@@ -37,6 +37,10 @@ errorOk number headerLen = eqb number 0 || (leb number 9 && eqb headerLen 0)
 
 unfoldable pub soundParser : RecordParser → Bool
 soundParser p = countsOk (p .header) (p .«header_len») (p .«payload_len») && errorOk (p .error .number) (p .«header_len»)
+
+-- sound with no error, and a header that is held is one of DATA
+unfoldable pub clear : RecordParser → Bool
+clear p = soundParser p && (eqb (p .error .number) 0 && (not (eqb (p .«header_len») 44) || eqb (typeOf (p .header)) 5))
 
 -- ---- a push
 -- what a push does: its answer, the payload bytes held afterwards, and the payload of the record that it completed ([] where it completed none)

@@ -1,6 +1,8 @@
 // The parser's value, whether it is sound and what it answers when asked, and the payload of a
 // complete record. `parser_push` has the push.
 use codec::header_ok;
+use codec::is_data;
+use copying::copy_at;
 use protocol::outer::OUTER_HEADER_LEN;
 use record::record::Record;
 use wire::bytes::least;
@@ -10,8 +12,9 @@ ghost use mathlib.Core.Bool.{_&&_};
 ghost use lib.Dec.{eqb, ltb};
 ghost use Prim.Native.Nat.{_+_};
 ghost use lib.ListN.{take, drop};
+ghost use Rattle.wire.specs.Bytes.{copied};
 ghost use Rattle.wire.specs.Header.{lengthOf};
-ghost use Rattle.parser.specs.Push.{fresh, countsOk, errorOk, soundParser, payloadAt, neededOf, bufferedOf, counted};
+ghost use Rattle.parser.specs.Push.{fresh, countsOk, errorOk, soundParser, clear, payloadAt, neededOf, bufferedOf, counted};
 
 // The record in progress: its header bytes beside the counts of header and payload bytes that have
 // come, and the error that ended the stream (number 0: none).
@@ -98,6 +101,27 @@ impl RecordParser {
         error_ok(error.number, self.header_len)
     }
 
+    // Whether the parser is sound with no error, and a header that it holds is one of DATA: the
+    // commonest parsers, told by few tests.
+    pub fn is_clear(self) -> bool
+        ensures { λ r. ⌜ r ≡ clear self ⌝ }
+    {
+        if self.error.number != 0 {
+            return false;
+        }
+        if self.header_len < OUTER_HEADER_LEN {
+            return self.payload_len == 0;
+        }
+        if self.header_len != OUTER_HEADER_LEN {
+            return false;
+        }
+        let header = self.header;
+        if !is_data(&header) {
+            return false;
+        }
+        self.payload_len < fields::length(&header) as usize
+    }
+
     // Whether so many bytes more leave the payload in progress unfinished. The push of such a piece
     // copies it to the stage, after the payload bytes that have come, and waits.
     pub fn stays_open(self, count: usize) -> bool
@@ -152,6 +176,15 @@ impl RecordParser {
             count: self.header_len + self.payload_len,
         }
     }
+}
+
+// The header with a part of a piece from an index on. Where it does not fit the header stays.
+pub fn filled(header: [u8; 44], at: usize, part: &[u8]) -> [u8; 44]
+    ensures { λ r. ⌜ r ≡ copied header at (now (part .entry)) ⌝ }
+{
+    let mut bytes = header;
+    copy_at(&mut bytes, at, part);
+    bytes
 }
 
 // The part of a slice from an index on, of at most `size` bytes.

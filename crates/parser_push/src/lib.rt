@@ -8,6 +8,7 @@ use copying::copy_at;
 use parser::parser::Place;
 use parser::parser::Pushed;
 use parser::parser::RecordParser;
+use parser::parser::filled;
 use parser::parser::part;
 use protocol::outer::OUTER_HEADER_LEN;
 use protocol::outer::OUTER_MAX_PAYLOAD;
@@ -161,16 +162,6 @@ fn payload_step(
     store_last(before, &rest[0..n], stage);
     let place = place_of(before, from);
     finished(header, whole(before, rest, stage, size), from + n, place)
-}
-
-// The header with a part of the piece from an index on.
-fn filled(header: [u8; 44], at: usize, part: &[u8]) -> [u8; 44]
-    requires { ⌜ at + length (now part) ≤ 44 ⌝ }
-    ensures { λ r. ⌜ r ≡ overlay header at (now (part .entry)) ⌝ }
-{
-    let mut bytes = header;
-    copy_at(&mut bytes, at, part);
-    bytes
 }
 
 // Byte 44 has come: the header checks, and the rest of the piece to the payload step. While a header

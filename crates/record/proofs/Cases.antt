@@ -15,7 +15,7 @@ use Rattle.wire.specs.declared.Epoch.{Epoch}
 use Rattle.wire.specs.declared.Sequence.{Sequence}
 use Rattle.wire.specs.declared.refusal.Refusal.{Refusal}
 use Rattle.protocol.specs.declared.outer.Written.{Written}
-use Rattle.wire.proofs.Rows.{picked, passed, pass-all, and-right, no-rows, row-stops, row-passes, rows-stop, rows-pass}
+use Rattle.wire.proofs.Rows.{Passed, picked, passed, pass-all, and-right, no-rows, row-stops, row-passes, rows-stop, rows-pass}
 use Rattle.wire.proofs.Headers.{header-length}
 use Rattle.types.specs.Types.{codeOf, typeAt, typeOk, bootstrap, lengthOk, errorOf, errorAt}
 use Rattle.types.proofs.Cases.{known-code, code-low, unknown-code, length-limit}
@@ -169,7 +169,7 @@ module _ (h : List ℕ) (m g : ℕ) (em : m ≡ magicOf h) (eg : g ≡ fromLe ma
 pub ruleset heading = (head-magic, head-version, head-type, head-rest)
 
 -- a header of DATA that passes, and what the checks say by their number
-pub data-passes : (h : List ℕ) (m g v t f n : ℕ) (b : Bool) → m ≡ magicOf h → g ≡ fromLe magic → m ≡ g → v ≡ versionOf h → v ≡ 1 → t ≡ typeOf h → t ≡ 5 → f ≡ flagsOf h → f ≡ 0
+data-passes : (h : List ℕ) (m g v t f n : ℕ) (b : Bool) → m ≡ magicOf h → g ≡ fromLe magic → m ≡ g → v ≡ versionOf h → v ≡ 1 → t ≡ typeOf h → t ≡ 5 → f ≡ flagsOf h → f ≡ 0
     → n ≡ lengthOf h → b ≡ lengthOk 5 n → b ≡ true → passes (headerChecks h) ≡ true
 unfolding headerChecks
 data-passes h m g v t f n b em eg mg ev v1 et t5 ef f0 en eb ok =
@@ -195,8 +195,49 @@ data-passes h m g v t f n b em eg mg ev v1 et t5 ef f0 en eb ok =
       ),
     )
 
-pub ok-data : (h : List ℕ) (b : Bool) → (b ≡ true → passes (headerChecks h) ≡ true) → b ≡ true → true ≡ passes (headerChecks h)
-ok-data h b f e = sym (f e)
+-- not both
+pub neither : (a b : Bool) → (a ≡ true → b ≡ true → ⊥) → false ≡ a && b
+neither true true n = absurd (n refl refl)
+neither true false n = refl
+neither false b n = refl
+
+module _ (h : List ℕ) where
+  rows-hold : passes (headerChecks h) ≡ true → Passed (headerRows h)
+  unfolding headerChecks
+  rows-hold e = passed (headerRows h) (refl, (refl, (refl, (refl, (refl, (refl, tt)))))) e
+
+  not-data : (eqb (typeOf h) 5 ≡ true → passes (headerChecks h) ≡ true → ⊥) → false ≡ eqb (typeOf h) 5 && passes (headerChecks h)
+  not-data = neither (eqb (typeOf h) 5) (passes (headerChecks h))
+
+  pub data-magic : (m g : ℕ) → m ≡ magicOf h → g ≡ fromLe magic → (m ≡ g → ⊥) → false ≡ eqb (typeOf h) 5 && passes (headerChecks h)
+  data-magic m g em eg n = not-data (λ t p. n (em ∙ eqb-true (magicOf h) (fromLe magic) (rows-hold p .0) ∙ sym eg))
+
+  pub data-version : (v : ℕ) → v ≡ versionOf h → (v ≡ 1 → ⊥) → false ≡ eqb (typeOf h) 5 && passes (headerChecks h)
+  data-version v ev n = not-data (λ t p. n (ev ∙ eqb-true (versionOf h) 1 (rows-hold p .1 .0)))
+
+  pub data-type : (k : ℕ) → k ≡ typeOf h → (k ≡ 5 → ⊥) → false ≡ eqb (typeOf h) 5 && passes (headerChecks h)
+  data-type k ek n = not-data (λ t p. n (ek ∙ eqb-true (typeOf h) 5 t))
+
+  pub data-flags : (f : ℕ) → f ≡ flagsOf h → (f ≡ 0 → ⊥) → false ≡ eqb (typeOf h) 5 && passes (headerChecks h)
+  data-flags f ef n = not-data (λ t p. n (ef ∙ eqb-true (flagsOf h) 0 (rows-hold p .1 .1 .1 .0)))
+
+  pub data-length : (m g v k f n : ℕ) (b : Bool) → m ≡ magicOf h → g ≡ fromLe magic → m ≡ g → v ≡ versionOf h → v ≡ 1 → k ≡ typeOf h → k ≡ 5 → f ≡ flagsOf h → f ≡ 0
+      → n ≡ lengthOf h → b ≡ lengthOk 5 n → b ≡ eqb (typeOf h) 5 && passes (headerChecks h)
+  data-length m g v k f n b em eg mg ev v1 ek k5 ef f0 en eb = go b refl
+    where
+      go : (c : Bool) → b ≡ c → c ≡ eqb (typeOf h) 5 && passes (headerChecks h)
+      go true e = simp (eq-eqb (typeOf h) 5 (sym ek ∙ k5), data-passes h m g v k f n b em eg mg ev v1 ek k5 ef f0 en eb e)
+      go false e =
+          not-data (λ t p.
+          let q : lengthOk (typeOf h) (lengthOf h) ≡ true = rows-hold p .1 .1 .1 .1 .0 in
+          let r : lengthOk (typeOf h) (lengthOf h) ≡ false = (λ j. lengthOk ((sym ek ∙ k5) j) (sym en j)) ∙ sym eb ∙ e in
+          let z : _≡_ {A = ℕ} 0 1 = cc in
+          omega arith)
+
+pub ruleset data-headers = (data-magic, data-version, data-type, data-flags, data-length)
+
+pub ok-data : (h : List ℕ) (b : Bool) → b ≡ eqb (typeOf h) 5 && passes (headerChecks h) → b ≡ true → true ≡ passes (headerChecks h)
+ok-data h b f e = sym (and-right (eqb (typeOf h) 5) (passes (headerChecks h)) (sym f ∙ e))
 
 pub ok-number : (h : List ℕ) (x : Refusal) → x ≡ headerChecks h → eqb (x .number) 0 ≡ passes (headerChecks h)
 ok-number h x e = ap passes e

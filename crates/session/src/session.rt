@@ -24,8 +24,8 @@ pub struct Identity {
 
 // An identity that may be missing. Where none is held, the bytes beside the mark mean nothing.
 pub struct OptionalIdentity {
-    pub present: bool,
     pub identity: Identity,
+    pub present: bool,
 }
 
 // The sequence after another, or the refusal.

@@ -5,12 +5,12 @@ ghost use Rattle.wire.specs.Refusals.{refusal, none};
 // 01's record of a refusal: its number, three figures and two fields of 16 bytes; what a number
 // does not use is 0. Number 0: no refusal.
 pub struct Refusal {
-    pub number: u8,
     pub a: u64,
     pub b: u64,
     pub c: u64,
     pub expected: [u8; 16],
     pub actual: [u8; 16],
+    pub number: u8,
 }
 
 impl Refusal {

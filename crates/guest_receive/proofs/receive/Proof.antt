@@ -1,46 +1,22 @@
--- `guest_receive::receive` meets its contract. Each way it returns is a case of its rule (proofs/Receiving); a payload that stays unfinished is a push that waits. Assumes nothing.
-use Rattle.guest_receive.proofs.Receiving.{receiving, receive-pushes, stays-told, stays-low}
-use Rattle.guest.proofs.Soundness.{sound-outstanding, sound-within}
-use Rattle.parser.proofs.Cases.{open-taken}
+-- `guest_receive::receive` meets its contract. It has one way out, to which four lead: the payload in progress stays unfinished, a step was taken, a step was not, or DATA may not flow. Each is a law of proofs/Flowing.
+-- Assumes nothing.
+use mathlib.Core.Logic.{⊎-elim}
+use mathlib.Core.Path.{refl, ap, _∙_}
+use native.Mathlib.Omega.{arith}
+use lib.ListN.{length}
+use Rattle.parser.proofs.Cases.{sound-count}
+use Rattle.guest.proofs.Soundness.{active-window}
+use Rattle.guest_receive.proofs.Receiving.{stays-low}
+use Rattle.guest_receive.proofs.Flowing.{flow-told, flow-active, flow-sound, open-way, step-way, any-way, way-out}
 use borrow.Author.Needs.{needs}
 use Rattle.guest_receive.proofs.receive.Statement.{statement}
 use Rattle.guest_receive.proofs.receive.Tie as tie
 
-is-sound-requires : tie.Need-is-sound-requires
-is-sound-requires c κs = search needs
+accepted-requires : tie.Need-accepted-requires
+accepted-requires c κs = search needs
 
-new-requires : tie.Need-new-requires
-new-requires c κs = search needs
-
-refuse-requires : tie.Need-refuse-requires
-refuse-requires c κs = search needs
-
-returns : tie.Need-returns
-returns c = search receiving
-
-new-requires-2 : tie.Need-new-requires-2
-new-requires-2 c κs = search needs
-
-refuse-requires-2 : tie.Need-refuse-requires-2
-refuse-requires-2 c κs = search needs
-
-returns-2 : tie.Need-returns-2
-returns-2 c = search receiving
-
-number-requires : tie.Need-number-requires
-number-requires c κs = search needs
-
-is-open-requires : tie.Need-is-open-requires
-is-open-requires c κs = search needs
-
-new-requires-3 : tie.Need-new-requires-3
-new-requires-3 c κs = search needs
-
-refuse-requires-3 : tie.Need-refuse-requires-3
-refuse-requires-3 c κs = search needs
-
-returns-3 : tie.Need-returns-3
-returns-3 c = search receiving
+flows-requires : tie.Need-flows-requires
+flows-requires c κs = search needs
 
 stays-open-requires : tie.Need-stays-open-requires
 stays-open-requires c κs = search needs
@@ -48,51 +24,92 @@ stays-open-requires c κs = search needs
 copy-at-requires : tie.Need-copy-at-requires
 copy-at-requires c κs = search needs
 
-keep-waiting-requires : tie.Need-keep-waiting-requires
-keep-waiting-requires c κs = search (stays-low, sound-within)
+none-requires : tie.Need-none-requires
+none-requires c κs = search needs
+
+add-parser : tie.Need-add-parser
+add-parser c =
+    let f = flow-told _ _ _ (c .before .before .before .before .before .before .before .before .before .before .flows .ensures) (c .before .before .before .before .before .before .before .before .before .if1 .taken) in
+    let low = stays-low _ _ _ (flow-sound _ _ f) (c .before .before .before .before .before .before .before .before .stays-open .ensures) (c .before .before .before .before .before .before .before .if2 .taken) in
+    omega arith
+
+with-front-requires : tie.Need-with-front-requires
+with-front-requires c κs = sound-count _ (flow-sound _ _ (flow-told _ _ _ (c .before .before .before .before .flows .ensures) (c .before .before .before .if1 .taken)))
+
+head-step-requires : tie.Need-head-step-requires
+head-step-requires c κs = (flow-told _ _ _ (c .before .before .before .before .before .before .flows .ensures) (c .before .before .before .before .before .if1 .taken), c .before .with-front .ensures)
+
+accepted-requires-2 : tie.Need-accepted-requires-2
+accepted-requires-2 c κs = search needs
+
+none-requires-2 : tie.Need-none-requires-2
+none-requires-2 c κs = search needs
+
+cast-outstanding : tie.Need-cast-outstanding
+cast-outstanding c =
+    let low = active-window _ (flow-active _ _ (flow-told _ _ _ (c .before .before .before .before .before .before .before .before .before .before .before .before .before .before .flows .ensures) (c .before .before .before .before .before .before .before .before .before .before .before .before .before .if1 .taken))) in
+    let fits = c .before .before .before .before .before .before .before .head-step .ensures .fits (c .before .before .before .before .if3 .taken) in
+    omega arith
+
+add-outstanding : tie.Need-add-outstanding
+add-outstanding c =
+    let low = active-window _ (flow-active _ _ (flow-told _ _ _ (c .before .before .before .before .before .before .before .before .before .before .before .before .before .before .before .flows .ensures) (c .before .before .before .before .before .before .before .before .before .before .before .before .before .before .if1 .taken))) in
+    let fits = c .before .before .before .before .before .before .before .before .head-step .ensures .fits (c .before .before .before .before .before .if3 .taken) in
+    omega arith
+
+receive-any-requires : tie.Need-receive-any-requires
+receive-any-requires c κs = search needs
+
+answer-of-requires : tie.Need-answer-of-requires
+answer-of-requires c κs = search needs
+
+receive-any-requires-2 : tie.Need-receive-any-requires-2
+receive-any-requires-2 c κs = search needs
+
+answer-of-requires-2 : tie.Need-answer-of-requires-2
+answer-of-requires-2 c κs = search needs
+
+with-session-requires : tie.Need-with-session-requires
+with-session-requires c κs = search needs
 
 same-length : tie.Need-same-length
-same-length c = search needs
+same-length c =
+    ⊎-elim (λ w. ap length (w .11) ∙ w .5 .given)
+    (⊎-elim (λ w. ap length (w .16) ∙ w .7 .given) (⊎-elim (λ w. ap length (w .17) ∙ w .12 .given ∙ w .7 .given) (λ w. ap length (w .8) ∙ w .3 .given)))
+    (c .before .if1 .came)
 
-returns-4 : tie.Need-returns-4
-returns-4 c =
-    receive-pushes _ _ _ _ _ (c .before .before .before .before .before .before .before .before .before .before .before .before .is-sound .ensures) (c .before .before .before .before .before .before .before .before .before .before .before .if1 .left) _ _ (c .before .before .before .before .before .before .before .before .before .before .if2 .left) (c .before .before .before .before .before .before .before .before .before .number .ensures) (c .before .before .before .before .before .before .before .before .is-open .ensures) _ _ (c .before .before .before .before .before .before .before .if3 .left) (open-taken _ _ _ _ (search sound-within) (search needs) (search stays-told) (c .before .before .before .copy-at .ensures)) (c .keep-waiting .ensures)
-
-push-requires : tie.Need-push-requires
-push-requires c κs = search needs
-
-after-push-requires : tie.Need-after-push-requires
-after-push-requires c κs = search sound-outstanding
-
-same-length-2 : tie.Need-same-length-2
-same-length-2 c = search needs
-
-returns-5 : tie.Need-returns-5
-returns-5 c =
-    receive-pushes _ _ _ _ _ (c .before .before .before .before .before .before .before .before .before .before .before .before .is-sound .ensures) (c .before .before .before .before .before .before .before .before .before .before .before .if1 .left) _ _ (c .before .before .before .before .before .before .before .before .before .before .if2 .left) (c .before .before .before .before .before .before .before .before .before .number .ensures) (c .before .before .before .before .before .before .before .before .is-open .ensures) _ _ (c .before .before .before .before .before .before .before .if3 .left) (c .before .before .before .push .ensures) (c .after-push .ensures)
+returns : tie.Need-returns
+returns c =
+    way-out _ _ _ _ _ _ _ (c .with-session .ensures)
+    (⊎-elim
+    (λ w. open-way _ _ _ (flow-told _ _ _ (c .before .before .flows .ensures) (w .0 .taken)) _ _ _ _ _ (w .1 .ensures) (w .2 .taken) (w .11 ∙ w .4 .ensures) (w .8 .ensures) (w .12 ∙ c .before .before .before .accepted .ensures) (w .10))
+    (⊎-elim
+    (λ w. step-way _ _ _ (flow-told _ _ _ (c .before .before .flows .ensures) (w .0 .taken)) _ _ _ _ _ _ _ (w .6 .ensures) (w .16) (w .9 .taken) (w .11 .ensures) (w .17 ∙ w .10 .ensures) (w .15))
+    (⊎-elim
+    (λ w. any-way _ _ _ _ _ _ _ _ _ (w .11 .ensures) (w .17) (w .6 .ensures .leaves (w .9 .left)) (w .18 ∙ w .15 .ensures) (w .16))
+    (λ w. any-way _ _ _ _ _ _ _ _ _ (w .2 .ensures) (w .8) refl (w .9 ∙ w .6 .ensures) (w .7))))
+    (c .before .if1 .came))
 
 pub receive-spec : {M : Type 1} → statement M
 receive-spec =
     tie.close
     (tie.spec
-    is-sound-requires
-    new-requires
-    refuse-requires
-    returns
-    new-requires-2
-    refuse-requires-2
-    returns-2
-    number-requires
-    is-open-requires
-    new-requires-3
-    refuse-requires-3
-    returns-3
+    accepted-requires
+    flows-requires
     stays-open-requires
     copy-at-requires
-    keep-waiting-requires
+    none-requires
+    add-parser
+    with-front-requires
+    head-step-requires
+    accepted-requires-2
+    none-requires-2
+    cast-outstanding
+    add-outstanding
+    receive-any-requires
+    answer-of-requires
+    receive-any-requires-2
+    answer-of-requires-2
+    with-session-requires
     same-length
-    returns-4
-    push-requires
-    after-push-requires
-    same-length-2
-    returns-5)
+    returns)

@@ -1,5 +1,5 @@
--- `parser_push::header_step` meets its contract. The laws `heading` have a case for each return: header bytes to come, or what follows byte 44. Assumes nothing.
-use Rattle.parser.proofs.Cases.{heading, head-room}
+-- `parser_push::header_step` meets its contract. The laws `head-waits` and `head-checked` have the two returns: header bytes to come, or what follows byte 44. Assumes nothing.
+use Rattle.parser.proofs.Cases.{bytes-are, head-waits, head-checked, head-room}
 use borrow.Author.Needs.{needs}
 use Rattle.parser_push.proofs.header_step.Statement.{statement}
 use Rattle.parser_push.proofs.header_step.Tie as tie
@@ -32,7 +32,8 @@ wait-requires : tie.Need-wait-requires
 wait-requires c κs = search needs
 
 returns : tie.Need-returns
-returns c = search heading
+returns c =
+    head-waits _ _ _ _ _ (c .before .before .before .before .least .ensures) (bytes-are _ _ _ _ _ (c .before .before .before .before .before .before .before .good .0 .1 .0 .1) (search needs) (c .before .before .before .before .least .ensures) (c .before .before .filled .ensures)) _ _ _ (c .before .if1 .taken) (c .wait .ensures)
 
 sub-checked : tie.Need-sub-checked
 sub-checked c = search needs
@@ -50,7 +51,8 @@ same-length : tie.Need-same-length
 same-length c = search needs
 
 returns-2 : tie.Need-returns-2
-returns-2 c = search heading
+returns-2 c =
+    head-checked _ _ _ _ _ (c .before .before .before .before .before .before .before .before .least .ensures) (bytes-are _ _ _ _ _ (c .before .before .before .before .before .before .before .before .before .before .before .good .0 .1 .0 .1) (search needs) (c .before .before .before .before .before .before .before .before .least .ensures) (c .before .before .before .before .before .before .filled .ensures)) _ _ _ _ (c .before .before .before .before .before .if1 .left) (c .before .before .checked .ensures)
 
 pub header-step-spec : {M : Type 1} → statement M
 header-step-spec =
