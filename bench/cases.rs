@@ -126,7 +126,7 @@ impl Bench {
         let (piece, times) = (self.piece(), self.records as u32);
         match self.case.kind {
             Kind::Receive => rattle::receive(&self.stream, piece, whole, &mut self.stage),
-            Kind::Send => rattle::send(&self.data, self.case.payload, &mut self.stage, &mut self.output) as u64,
+            Kind::Send => rattle::send(&self.data, self.case.payload, &mut self.output) as u64,
             Kind::Echo => rattle::echo(
                 &self.data, times, whole, &mut self.stage, &mut self.output, &mut self.other,
             ),

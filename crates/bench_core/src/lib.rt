@@ -1,7 +1,6 @@
 // The loops of the benchmark (bench/): each exported function holds a whole loop of calls, so that
 // what is timed from Rust are the calls and not the way to them.
-mod echo;
-mod parts;
+pub mod parts;
 mod receive;
 mod send;
-mod start;
+pub mod start;

@@ -8,14 +8,18 @@ pub struct Sums {
     pub weighted: u64,
 }
 
-pub(crate) fn no_sums() -> Sums {
+// No sums yet.
+// Internal: serves the benchmark.
+pub fn no_sums() -> Sums {
     Sums {
         plain: 0,
         weighted: 0,
     }
 }
 
-pub(crate) fn add(sums: Sums, value: u64) -> Sums {
+// Adds a number.
+// Internal: serves the benchmark.
+pub fn add(sums: Sums, value: u64) -> Sums {
     let plain = std::num::wrapping_add_u64(sums.plain, value);
     Sums {
         plain,
@@ -39,7 +43,8 @@ fn add_all(sums: Sums, bytes: &[u8]) -> Sums {
 }
 
 // Adds a payload: its length and first byte, or with `whole` its length and every byte.
-pub(crate) fn add_payload(sums: Sums, bytes: &[u8], whole: bool) -> Sums {
+// Internal: serves the benchmark.
+pub fn add_payload(sums: Sums, bytes: &[u8], whole: bool) -> Sums {
     let counted = add(sums, bytes.len() as u64);
     if whole {
         return add_all(counted, bytes);
@@ -51,13 +56,15 @@ pub(crate) fn add_payload(sums: Sums, bytes: &[u8], whole: bool) -> Sums {
 }
 
 // A place so many bytes further on.
-pub(crate) fn after(at: usize, count: usize) -> usize {
+// Internal: serves the benchmark.
+pub fn after(at: usize, count: usize) -> usize {
     std::num::wrapping_add_usize(at, count)
 }
 
 // The end of the piece at a place: the end as it was until that is reached, then one piece on, or
 // the end of the stream.
-pub(crate) fn piece_end(at: usize, end: usize, piece: usize, length: usize) -> usize {
+// Internal: serves the benchmark.
+pub fn piece_end(at: usize, end: usize, piece: usize, length: usize) -> usize {
     if at < end {
         return end;
     }
@@ -71,7 +78,8 @@ pub(crate) fn piece_end(at: usize, end: usize, piece: usize, length: usize) -> u
 }
 
 // The bytes from one place to another; none where they are not there.
-pub(crate) fn cut(s: &[u8], from: usize, end: usize) -> &[u8] {
+// Internal: serves the benchmark.
+pub fn cut(s: &[u8], from: usize, end: usize) -> &[u8] {
     if s.len() < end {
         return &s[0..0];
     }

@@ -63,7 +63,7 @@ pub extern "C" fn nvxs_receive(stream: &[u8], piece: usize, whole: bool, stage: 
     ensures { λ _. ⌜ length (now (stage .exit)) ≡ length (now (stage .entry)) ⌝ }
 {
     let mut run = Run {
-        guest: active_guest(stage),
+        guest: active_guest(),
         sums: no_sums(),
         at: 0,
         end: 0,

@@ -31,11 +31,11 @@ fn turn(run: Run, data: &[u8], size: usize, output: &mut [u8]) -> Run {
 // Sends the data in records of so many bytes, one after another in the output, and gives the
 // position after the last; 0 where one is refused.
 #[no_mangle]
-pub extern "C" fn nvxs_send(data: &[u8], size: usize, stage: &mut [u8], output: &mut [u8]) -> usize
-    ensures { λ _. ⌜ (length (now (stage .exit)) ≡ length (now (stage .entry))) × (length (now (output .exit)) ≡ length (now (output .entry))) ⌝ }
+pub extern "C" fn nvxs_send(data: &[u8], size: usize, output: &mut [u8]) -> usize
+    ensures { λ _. ⌜ length (now (output .exit)) ≡ length (now (output .entry)) ⌝ }
 {
     let mut run = Run {
-        guest: active_guest(stage),
+        guest: active_guest(),
         at: 0,
         next: 0,
     };

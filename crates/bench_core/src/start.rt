@@ -1,8 +1,9 @@
-// Sessions at the point where DATA flows, and the parser of a relay between them.
-use codec::encode_record;
+// A guest at the point where DATA flows.
 use guest::guest::GuestSession;
-use host::host::HostSession;
-use types::RecordType;
+use guest::guest::GuestState;
+use parser::parser::RecordParser;
+use session::session::Identity;
+use session::session::OptionalIdentity;
 use wire::Epoch;
 use wire::Sequence;
 
@@ -30,43 +31,22 @@ pub const EPOCH: u64 = 7;
 
 pub const WINDOW: u32 = 4194304;
 
-// A record of no payload with sequence 0.
-fn opening(record_type: RecordType) -> [u8; 44] {
-    let mut bytes = [0u8; 44];
-    let empty = [0u8; 0];
-    encode_record(
-        record_type,
-        INSTANCE,
-        Epoch(EPOCH),
-        Sequence(0),
-        &empty,
-        &mut bytes,
-        0,
-    );
-    bytes
-}
-
-// A guest that has attached, got a RESET of sequence 0 and acknowledged it.
-pub(crate) fn active_guest(stage: &mut [u8]) -> GuestSession {
-    let mut output = [0u8; 48];
-    let attached = guest_calls::attach(GuestSession::new(), &mut output, 0);
-    let attaching = attached.session;
-    let reset = opening(RecordType::Reset);
-    let received = guest_receive::receive(attaching, &reset, stage);
-    let resetting = received.session;
-    let acknowledged = guest_calls::acknowledge(resetting, WINDOW, &mut output, 0);
-    acknowledged.session
-}
-
-// A host that has attached, got a READY of sequence 0 and sent a byte, so that its next record has
-// the sequence that the guest expects.
-pub(crate) fn attached_host(stage: &mut [u8]) -> HostSession {
-    let mut output = [0u8; 76];
-    let attached = host_calls::attach(HostSession::new(), [7u8; 32], &mut output, 0);
-    let attaching = attached.session;
-    let ready = opening(RecordType::Ready);
-    let received = host_receive::receive(attaching, &ready, stage);
-    let host = received.session;
-    let sent = host_calls::send(host, b"0", &mut output, 0);
-    sent.session
+// A guest that has acknowledged a RESET of sequence 0.
+// Internal: serves the benchmark.
+pub fn active_guest() -> GuestSession {
+    GuestSession {
+        parser: RecordParser::new(),
+        identity: OptionalIdentity {
+            identity: Identity {
+                instance_id: INSTANCE,
+                epoch: Epoch(EPOCH),
+            },
+            present: true,
+        },
+        receive_sequence: Sequence(1),
+        send_sequence: Sequence(1),
+        window: WINDOW,
+        outstanding: 0,
+        state: GuestState::Active,
+    }
 }

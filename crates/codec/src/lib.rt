@@ -1,17 +1,15 @@
-// The checks on a record's header and payload, the header read, and the encoder.
+// A record's header checked and read, and the encoder.
+use checks::check_bootstrap;
+use checks::check_length;
+use checks::check_payload;
 use protocol::outer::OUTER_MAGIC;
 use protocol::outer::OUTER_VERSION;
 use protocol::outer::Written;
-use protocol::outer::credit_ok;
 use protocol::outer::encode_header;
 use protocol::outer::put_record;
-use protocol::outer::value;
-use protocol::outer::window_ok;
 use record::record::ParsedHeader;
 use record::record::Record;
 use record::record::no_record;
-use types::ErrorCode;
-use types::ErrorLookup;
 use types::RecordType;
 use types::TypeLookup;
 use wire::Epoch;
@@ -19,118 +17,13 @@ use wire::Sequence;
 use wire::bytes::u32_from_le_bytes;
 use wire::refusal::Refusal;
 ghost use mathlib.Core.Path.{_≡_};
-ghost use mathlib.Core.Bool.{true, _&&_};
-ghost use mathlib.Core.List.{[], _∷_};
-ghost use lib.ListN.{length};
+ghost use mathlib.Core.Bool.{_&&_};
 ghost use lib.Dec.{eqb};
-ghost use Rattle.wire.specs.Refusals.{refusal, first, passes};
+ghost use Rattle.wire.specs.Refusals.{first, passes};
 ghost use Rattle.wire.specs.Header.{typeOf};
-ghost use Rattle.protocol.specs.Outer.{outcome, windowOk, creditOk};
+ghost use Rattle.protocol.specs.Outer.{outcome};
 ghost use Rattle.types.specs.Types.{codeOf};
-ghost use Rattle.record.specs.Record.{allZero, lengthRow, bootstrapRow, restRows, recordRows, payloadChecks, recordWith, recordOf, headerChecks, parseHeader, encodeRecord};
-
-// Whether the 16 bytes are all zero.
-pub fn all_zero(bytes: [u8; 16]) -> bool
-    ensures { λ r. ⌜ r ≡ allZero bytes ⌝ }
-{
-    let mut zero = true;
-    let mut i: usize = 0;
-    while i < 16 {
-        if bytes[i] != 0 {
-            zero = false;
-        }
-        i += 1;
-    }
-    zero
-}
-
-// Checks that a type allows a payload of so many bytes.
-pub fn check_length(record_type: RecordType, length: usize) -> Refusal
-    ensures { λ r. ⌜ r ≡ first (lengthRow (codeOf «record_type») length ∷ []) ⌝ }
-{
-    if record_type.allows_length(length) {
-        return Refusal::none();
-    }
-    Refusal::new(5, record_type.code() as u64, length as u64, 0)
-}
-
-// Checks that a bootstrap record carries a zero instance, epoch and sequence.
-pub fn check_bootstrap(
-    record_type: RecordType,
-    instance_id: [u8; 16],
-    epoch: Epoch,
-    sequence: Sequence,
-) -> Refusal
-    ensures { λ r. ⌜ r ≡ first (bootstrapRow (codeOf «record_type») «instance_id» (epoch .0) (sequence .0) ∷ []) ⌝ }
-{
-    if !record_type.is_bootstrap() {
-        return Refusal::none();
-    }
-    if zero_identity(instance_id, epoch, sequence) {
-        return Refusal::none();
-    }
-    Refusal::new(6, record_type.code() as u64, 0, 0)
-}
-
-// Whether instance, epoch and sequence are all zero.
-fn zero_identity(instance_id: [u8; 16], epoch: Epoch, sequence: Sequence) -> bool
-    ensures { λ r. ⌜ r ≡ allZero «instance_id» && (eqb (epoch .0) 0 && eqb (sequence .0) 0) ⌝ }
-{
-    if !all_zero(instance_id) {
-        return false;
-    }
-    if epoch.0 != 0 {
-        return false;
-    }
-    sequence.0 == 0
-}
-
-// Checks a window.
-fn check_window(window: u32) -> Refusal
-    ensures { λ r. ⌜ r ≡ first ((windowOk window, refusal 8 window 0 0) ∷ []) ⌝ }
-{
-    if window_ok(window) {
-        return Refusal::none();
-    }
-    Refusal::new(8, window as u64, 0, 0)
-}
-
-// Checks a credit.
-fn check_credit(bytes: u32) -> Refusal
-    ensures { λ r. ⌜ r ≡ first ((creditOk bytes, refusal 9 bytes 0 0) ∷ []) ⌝ }
-{
-    if credit_ok(bytes) {
-        return Refusal::none();
-    }
-    Refusal::new(9, bytes as u64, 0, 0)
-}
-
-// Checks an error value.
-fn check_error(code: u32) -> Refusal
-    ensures { λ r. ⌜ r ≡ first ((eqb code 1, refusal 7 code 0 0) ∷ []) ⌝ }
-{
-    let ErrorLookup::Known(_) = ErrorCode::from_code(code) else {
-        return Refusal::new(7, code as u64, 0, 0);
-    };
-    Refusal::none()
-}
-
-// Checks the value of an ACK, CREDIT or ERROR payload.
-pub fn check_payload(record_type: RecordType, payload: &[u8]) -> Refusal
-    ensures { λ r. ⌜ r ≡ payloadChecks (codeOf «record_type») (now (payload .entry)) ⌝ }
-{
-    match record_type {
-        RecordType::GuestAttach => Refusal::none(),
-        RecordType::HostAttach => Refusal::none(),
-        RecordType::Reset => Refusal::none(),
-        RecordType::Ack => check_window(value(payload)),
-        RecordType::Data => Refusal::none(),
-        RecordType::Wait => Refusal::none(),
-        RecordType::Ready => Refusal::none(),
-        RecordType::Error => check_error(value(payload)),
-        RecordType::Credit => check_credit(value(payload)),
-    }
-}
+ghost use Rattle.record.specs.Record.{restRows, recordRows, recordWith, recordOf, headerChecks, parseHeader, encodeRecord};
 
 // The fields of a header of a given type.
 fn record_with(header: &[u8; 44], record_type: RecordType) -> Record

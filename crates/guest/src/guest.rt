@@ -2,7 +2,7 @@
 // and `guest_calls` have the operations that change it.
 use parser::parser::Count;
 use parser::parser::RecordParser;
-use protocol::outer::OUTER_MAX_RECEIVE_WINDOW;
+use payloads::OUTER_MAX_RECEIVE_WINDOW;
 use session::session::OptionalIdentity;
 use session::session::no_identity;
 use wire::Sequence;

@@ -22,11 +22,11 @@ use Rattle.record.specs.Record.{allZero, encodeRows, recordBytes, encodeRecord}
 use Rattle.parser.specs.Push.{soundParser, clear, bufferedOf, counted}
 use Rattle.parser.specs.declared.parser.Count.{Count}
 use Rattle.session.specs.Checks.{lastSequence, nextRow}
-use Rattle.session.specs.Writes.{identityBytes, nextRows, encodeNext, encodeData}
-use Rattle.session.specs.Writes as writing
+use Rattle.next_record.specs.Writes.{identityBytes, nextRows, encodeNext, encodeData}
+use Rattle.next_record.specs.Writes as writing
 use Rattle.session.specs.declared.session.Identity.{Identity}
-use Rattle.session.specs.declared.session.Encoded.{Encoded}
-use Rattle.session.proofs.Cases.{encoded-stops, encoded-done}
+use Rattle.next_record.specs.declared.Encoded.{Encoded}
+use Rattle.next_record.proofs.Cases.{encoded-stops, encoded-done}
 use Rattle.guest.specs.State.{code, soundGuest, activeGuest, withState, ackGuest, withSent, sentGuest}
 use Rattle.guest_calls.specs.Calls.{soundRow, outcome, notSent, sentRecord, writes, attachRows, attach, ackRows, acknowledge, sendCount, sendRows, send, encoding, writeRows, credit, disconnect}
 use Rattle.guest.specs.declared.guest.GuestState.the-variants as State

@@ -11,8 +11,8 @@ use Rattle.wire.specs.declared.refusal.Refusal.{Refusal}
 use Rattle.record.specs.Record.{recordBytes}
 use Rattle.parser.specs.Push.{bufferedOf}
 use Rattle.session.specs.Checks.{nextRow}
-use Rattle.session.specs.Writes.{identityBytes, notEncoded, encodeData}
-use Rattle.session.specs.Writes as writing
+use Rattle.next_record.specs.Writes.{identityBytes, notEncoded, encodeData}
+use Rattle.next_record.specs.Writes as writing
 use Rattle.guest.specs.State.{isDetached, isResetting, isActive, isEnded, soundGuest, withState, ackGuest, sentGuest}
 use Rattle.guest.specs.declared.guest.GuestState.the-variants as State
 use Rattle.guest.specs.declared.guest.GuestSession.{GuestSession}

@@ -20,10 +20,10 @@ use Rattle.record.specs.Record.{allZero, encodeRows, recordBytes, encodeRecord}
 use Rattle.parser.specs.Push.{bufferedOf, counted}
 use Rattle.parser.specs.declared.parser.Count.{Count}
 use Rattle.session.specs.Checks.{lastSequence, nextRow}
-use Rattle.session.specs.Writes.{identityBytes, nextRows, encodeData}
-use Rattle.session.specs.Writes as writing
-use Rattle.session.specs.declared.session.Encoded.{Encoded}
-use Rattle.session.proofs.Cases.{encoded-stops, encoded-done}
+use Rattle.next_record.specs.Writes.{identityBytes, nextRows, encodeData}
+use Rattle.next_record.specs.Writes as writing
+use Rattle.next_record.specs.declared.Encoded.{Encoded}
+use Rattle.next_record.proofs.Cases.{encoded-stops, encoded-done}
 use Rattle.host.specs.State.{code, isBegun, soundHost, withState, withSent, sentHost}
 use Rattle.host_calls.specs.Calls.{soundRow, outcome, notSent, sentRecord, writes, attachRows, attach, sendCount, sendRows, send, ended, disconnect}
 use Rattle.host.specs.declared.host.HostState.the-variants as State

@@ -11,7 +11,7 @@ use Rattle.wire.specs.declared.refusal.Refusal.{Refusal}
 use Rattle.record.specs.Record.{recordBytes}
 use Rattle.parser.specs.Push.{bufferedOf}
 use Rattle.session.specs.Checks.{nextRow}
-use Rattle.session.specs.Writes.{identityBytes}
+use Rattle.next_record.specs.Writes.{identityBytes}
 use Rattle.host.specs.State.{isDetached, isAttached, isBegun, soundHost, withState, sentHost}
 use Rattle.host.specs.declared.host.HostState.the-variants as State
 use Rattle.host.specs.declared.host.HostSession.{HostSession}

@@ -3,8 +3,8 @@
 use codec::encode_record;
 use host::host::HostSession;
 use host::host::HostState;
+use next_record::encode_data;
 use protocol::outer::Written;
-use session::session::encode_data;
 use types::RecordType;
 use wire::Epoch;
 use wire::Sequence;

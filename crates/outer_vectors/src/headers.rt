@@ -22,11 +22,7 @@ pub fn decode(header: [u8; 44]) {
 fn fields(header: OuterHeader) {
     let instance = header.instance_id;
     print::labelled(b"type ", header.record_type as u64);
-    print::text(b" instance ");
-    print::hex(&instance);
-    print::labelled(b" epoch ", header.epoch.0);
-    print::labelled(b" sequence ", header.sequence.0);
-    print::labelled(b" length ", header.length as u64);
+    print::fields(&instance, header.epoch.0, header.sequence.0, header.length);
 }
 
 // Decodes the header of a DATA with another byte at an index.

@@ -1,6 +1,6 @@
 // Worked byte strings of the plain layer, a line for each call: what was called, and what came.
 mod headers;
-mod payloads;
+mod pairs;
 mod records;
 
 fn main() {
@@ -12,7 +12,7 @@ fn main() {
     records::limits();
     headers::wrong();
     headers::lengths();
-    payloads::windows();
-    payloads::credits();
-    payloads::lengths();
+    pairs::windows();
+    pairs::credits();
+    pairs::lengths();
 }

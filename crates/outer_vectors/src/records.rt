@@ -3,6 +3,7 @@ use crate::headers::decode;
 use protocol::outer::encode_outer;
 use wire::Epoch;
 use wire::Sequence;
+ghost use Prim.Native.Nat.{_≤_};
 
 // M1: a RESET without payload, there and back.
 pub fn reset() {
@@ -46,15 +47,19 @@ fn shown(output: &mut [u8], at: usize) {
     print::end_line();
 }
 
-// Positions in an output of 51 bytes: within it, the last that fits, one more, the end, one past
-// the end, the largest number.
+// A position in an output of 51 bytes.
+fn position(at: usize) {
+    shown(&mut [0xAAu8; 51], at);
+}
+
+// Within the output, the last that fits, one more, the end, one past the end, the largest number.
 pub fn positions() {
-    shown(&mut [0xAAu8; 51], 2);
-    shown(&mut [0xAAu8; 51], 4);
-    shown(&mut [0xAAu8; 51], 5);
-    shown(&mut [0xAAu8; 51], 51);
-    shown(&mut [0xAAu8; 51], 52);
-    shown(&mut [0xAAu8; 51], 18446744073709551615);
+    position(2);
+    position(4);
+    position(5);
+    position(51);
+    position(52);
+    position(18446744073709551615);
 }
 
 // Outputs that are exactly long enough, and one byte short.
@@ -76,17 +81,19 @@ fn ends(output: &[u8]) {
     print::end_line();
 }
 
-// A large payload at position 2 of 65,584 bytes. A payload of 65,536 leaves two bytes after it.
-fn large(payload: &[u8]) {
+// A payload of so many bytes at position 2 of 65,584. One of 65,536 leaves two bytes after it.
+fn large(count: usize)
+    requires { ⌜ count ≤ 65537 ⌝ }
+{
+    let payload = [0x55u8; 65537];
     let mut output = [0xAAu8; 65584];
-    encode(payload, &mut output, 2);
+    encode(&payload[0..count], &mut output, 2);
     ends(&output);
 }
 
 // Payloads at the limit and above it. In the last call both 24 and 22 apply, and 24 comes first.
 pub fn limits() {
-    let payload = [0x55u8; 65537];
-    large(&payload[0..65536]);
-    large(&payload);
-    encode(&payload, &mut [0xAAu8; 4], 5);
+    large(65536);
+    large(65537);
+    encode(&[0x55u8; 65537], &mut [0xAAu8; 4], 5);
 }

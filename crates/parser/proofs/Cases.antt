@@ -106,13 +106,13 @@ module _ (p : RecordParser) where
         let n : p .«header_len» ≡ 44 → ⊥ = λ e. omega arith in
         sym (clear-counts ∙ simp (← counts-filling (p .header) (p .«header_len») (p .«payload_len») n l, ne-eqb (p .«header_len») 44 n, and-true))
 
-    pub clear-over : 44 ≤ p .«header_len» → (p .«header_len» ≡ 44 → ⊥) → false ≡ clear p
-    clear-over l n = sym (clear-counts ∙ simp (← counts-over (p .header) (p .«header_len») (p .«payload_len») n l))
+    pub clear-over : 44 < p .«header_len» → false ≡ clear p
+    clear-over l = sym (clear-counts ∙ simp (← counts-over (p .header) (p .«header_len») (p .«payload_len») (λ e. omega arith) (omega arith)))
 
-    module _ (b : Bool) (full : p .«header_len» ≡ 44) (eb : b ≡ eqb (typeOf (p .header)) 5 && passes (headerChecks (p .header))) where
+    module _ (b : Bool) (least : 44 ≤ p .«header_len») (most : p .«header_len» ≤ 44) (eb : b ≡ eqb (typeOf (p .header)) 5 && passes (headerChecks (p .header))) where
       clear-full : clear p ≡ (passes (headerChecks (p .header)) && ltb (p .«payload_len») (lengthOf (p .header))) && eqb (typeOf (p .header)) 5
       unfolding countsOk
-      clear-full = clear-counts ∙ simp (eq-eqb (p .«header_len») 44 full)
+      clear-full = clear-counts ∙ simp (eq-eqb (p .«header_len») 44 (omega arith))
 
       pub clear-other : not b ≡ true → false ≡ clear p
       clear-other n =

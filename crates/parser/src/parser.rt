@@ -112,7 +112,7 @@ impl RecordParser {
         if self.header_len < OUTER_HEADER_LEN {
             return self.payload_len == 0;
         }
-        if self.header_len != OUTER_HEADER_LEN {
+        if OUTER_HEADER_LEN < self.header_len {
             return false;
         }
         let header = self.header;

@@ -1,7 +1,7 @@
 // An incremental parser's push: bytes come in pieces of any size, and each record is handed over
 // with its last byte. Payload bytes that come in several pushes lie in a stage that the caller lends.
+use checks::check_payload;
 use codec::check_header;
-use codec::check_payload;
 use codec::header_ok;
 use codec::record_of;
 use copying::copy_at;

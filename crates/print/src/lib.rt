@@ -38,6 +38,15 @@ fn digit(n: u8) -> u8
     if n < 10 { b'0' + n } else { b'A' + (n - 10) }
 }
 
+// Instance, epoch, sequence and length of a record. Internal: only writes to standard output.
+pub fn fields(instance_id: &[u8], epoch: u64, sequence: u64, length: usize) {
+    text(b" instance ");
+    hex(instance_id);
+    labelled(b" epoch ", epoch);
+    labelled(b" sequence ", sequence);
+    labelled(b" length ", length as u64);
+}
+
 // Internal: only writes to standard output.
 pub fn refusal(number: u8) {
     labelled(b"refusal ", number as u64);

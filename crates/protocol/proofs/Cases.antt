@@ -7,21 +7,17 @@ use native.Mathlib.Omega.{arith}
 use lib.ListN.{length, length-append}
 use lib.Dec.{eqb, leb}
 use borrow.Author.Tests.{le-leb, lt-leb, eq-eqb, ne-eqb, not-true, not-false}
-use Rattle.wire.specs.Bytes.{fromLe, toLe, bytesAt, overlay, copied}
+use Rattle.wire.specs.Bytes.{fromLe, overlay, copied}
 use Rattle.wire.specs.Refusals.{pick, refusal, none, first, passes}
 use Rattle.wire.specs.Header.{magic, magicOf, versionOf, typeOf, flagsOf, instanceOf, epochOf, sequenceOf, lengthOf, headerBytes}
-use Rattle.protocol.specs.Outer.{maxPayload, windowOk, creditOk, outcome, notWritten, roomRow, write, putRecord, encodeOuter}
-use Rattle.protocol.specs.Outer.{noHeader, headerOf, outerOk, refusedHeader, decodeOuterHeader, valueOf}
-use Rattle.protocol.specs.Outer.{acceptedEncoding, refusedEncoding, acceptedDecoding, refusedDecoding, encodePayload, decodePayload}
+use Rattle.protocol.specs.Outer.{maxPayload, outcome, notWritten, roomRow, write, putRecord, encodeOuter}
+use Rattle.protocol.specs.Outer.{noHeader, headerOf, outerOk, refusedHeader, decodeOuterHeader}
 use Rattle.wire.specs.declared.Epoch.{Epoch}
 use Rattle.wire.specs.declared.Sequence.{Sequence}
 use Rattle.wire.specs.declared.refusal.Refusal.{Refusal}
 use Rattle.protocol.specs.declared.outer.OuterHeader.{OuterHeader}
 use Rattle.protocol.specs.declared.outer.Written.{Written}
 use Rattle.protocol.specs.declared.outer.DecodedHeader.{DecodedHeader}
-use Rattle.protocol.specs.declared.outer.EncodedPayload.{EncodedPayload}
-use Rattle.protocol.specs.declared.outer.DecodedPayload.{DecodedPayload}
-use Rattle.wire.proofs.Numbers.{at-whole}
 use Rattle.wire.proofs.Headers.{header-length}
 use Rattle.wire.proofs.Overlays.{copied-fits, overlay-next, length-overlay}
 
@@ -133,62 +129,3 @@ module _ (h : List ℕ) (b : Bool) (eb : b ≡ outerOk h) where
         simp (decodeOuterHeader, ← eb, not-false b n, le-leb (lengthOf h) 65536 k) (λ j. record { refusal = ex j; header = ed j })
 
 pub ruleset decoding-header = (decode-25, decode-26, decode-done)
-
--- ---- values and their limits
-pub window-low : (w : ℕ) → w < 65536 → false ≡ windowOk w
-unfolding windowOk
-window-low w h = simp (lt-leb 65536 w h)
-
-pub window-high : (w : ℕ) → 65536 ≤ w → leb w 4194314 ≡ windowOk w
-unfolding windowOk
-window-high w h = simp (le-leb 65536 w h)
-
-pub credit-low : (n : ℕ) → n ≡ 0 → false ≡ creditOk n
-unfolding creditOk
-credit-low n h = simp (lt-leb 1 n (omega arith))
-
-pub credit-high : (n : ℕ) → (n ≡ 0 → ⊥) → leb n 4194314 ≡ creditOk n
-unfolding creditOk
-credit-high n h = simp (le-leb 1 n (omega arith))
-
-pub ruleset limits = (window-low, window-high, credit-low, credit-high)
-
--- ---- the four-byte payloads
-pub value-other : (p : List ℕ) → (length p ≡ 4 → ⊥) → 0 ≡ valueOf p
-unfolding valueOf
-value-other p h = simp (ne-eqb (length p) 4 h)
-
-pub value-four : (p : List ℕ) (v : ℕ) → length p ≡ 4 → v ≡ fromLe (bytesAt 0 4 p) → v ≡ valueOf p
-unfolding valueOf
-value-four p v h e = simp (eq-eqb (length p) 4 h) (e ∙ ap fromLe (at-whole 4 p h))
-
-pub ruleset valuing = (value-other, value-four)
-
--- over the test and its number, which is not 0
-module _ (ok : ℕ → Bool) (number : ℕ) (named : eqb number 0 ≡ false) where
-  pub encode-yes : (v : ℕ) (b : Bool) (r : EncodedPayload) → b ≡ ok v → b ≡ true → r ≡ acceptedEncoding v → r ≡ encodePayload ok number v
-  unfolding encodePayload first
-  encode-yes v b r eb t er = simp (encodePayload, ← eb, t) er
-
-  pub encode-no : (v : ℕ) (b : Bool) (r : EncodedPayload) → b ≡ ok v → b ≡ false → r ≡ refusedEncoding number → r ≡ encodePayload ok number v
-  unfolding encodePayload first
-  encode-no v b r eb t er = simp (encodePayload, ← eb, t, named) er
-
-  module _ (p : List ℕ) where
-    pub decode-29 : (r : DecodedPayload) → (length p ≡ 4 → ⊥) → r ≡ refusedDecoding 29 → r ≡ decodePayload ok number p
-    unfolding decodePayload first
-    decode-29 r h er = simp (decodePayload, ne-eqb (length p) 4 h) er
-
-    module _ (v : ℕ) (b : Bool) (four : length p ≡ 4) (ev : v ≡ valueOf p) (eb : b ≡ ok v) where
-      told : b ≡ ok (fromLe p)
-      unfolding valueOf
-      told = eb ∙ ap ok (ev ∙ simp (eq-eqb (length p) 4 four))
-
-      pub decode-yes : (r : DecodedPayload) → b ≡ true → r ≡ acceptedDecoding v → r ≡ decodePayload ok number p
-      unfolding decodePayload first valueOf
-      decode-yes r t er =
-          simp (decodePayload, eq-eqb (length p) 4 four, ← told, t) (er ∙ ap acceptedDecoding (ev ∙ simp (eq-eqb (length p) 4 four)))
-
-      pub decode-no : (r : DecodedPayload) → b ≡ false → r ≡ refusedDecoding number → r ≡ decodePayload ok number p
-      unfolding decodePayload first
-      decode-no r t er = simp (decodePayload, eq-eqb (length p) 4 four, ← told, t, named) er

@@ -11,7 +11,7 @@ ghost use mathlib.Core.Path.{_≡_};
 ghost use Prim.Native.Nat.{_+_, _≤_};
 ghost use lib.ListN.{length};
 ghost use Rattle.wire.specs.Header.{headerBytes};
-ghost use Rattle.protocol.specs.Outer.{outcome, notWritten, putRecord, encodeOuter, outerOk, headerOf, refusedHeader, decodeOuterHeader, windowOk, creditOk, valueOf, acceptedEncoding, refusedEncoding, acceptedDecoding, refusedDecoding, encodeAckPayload, decodeAckPayload, encodeCreditPayload, decodeCreditPayload};
+ghost use Rattle.protocol.specs.Outer.{outcome, notWritten, putRecord, encodeOuter, outerOk, headerOf, refusedHeader, decodeOuterHeader};
 
 // Magic of every outer record.
 pub const OUTER_MAGIC: [u8; 4] = [0x4E, 0x56, 0x58, 0x53];
@@ -21,13 +21,6 @@ pub const OUTER_VERSION: u16 = 1;
 pub const OUTER_HEADER_LEN: usize = 44;
 // Largest payload of one outer record.
 pub const OUTER_MAX_PAYLOAD: usize = 65536;
-// Receive window that the NVX guest advertises after a reset.
-pub const OUTER_RECEIVE_WINDOW: u32 = 1048576;
-// Smallest receive window that the broker accepts in an acknowledgement.
-pub const OUTER_MIN_RECEIVE_WINDOW: u32 = 65536;
-// Largest receive window that the broker accepts.
-pub const OUTER_MAX_RECEIVE_WINDOW: u32 = 4194314;
-
 // Decoded outer record header.
 pub struct OuterHeader {
     pub record_type: u8,
@@ -47,18 +40,6 @@ pub struct Written {
 pub struct DecodedHeader {
     pub refusal: Refusal,
     pub header: OuterHeader,
-}
-
-// What encoding an ACK or CREDIT payload answers.
-pub struct EncodedPayload {
-    pub refusal: Refusal,
-    pub payload: [u8; 4],
-}
-
-// What decoding an ACK or CREDIT payload answers.
-pub struct DecodedPayload {
-    pub refusal: Refusal,
-    pub value: u32,
 }
 
 // Returns the header of a record. It checks nothing.
@@ -196,122 +177,4 @@ pub fn decode_outer_header(header: [u8; 44]) -> DecodedHeader
         refusal: Refusal::none(),
         header: decoded,
     }
-}
-
-// Whether a window is within its limits.
-pub fn window_ok(window: u32) -> bool
-    ensures { λ r. ⌜ r ≡ windowOk window ⌝ }
-{
-    if window < OUTER_MIN_RECEIVE_WINDOW {
-        return false;
-    }
-    window <= OUTER_MAX_RECEIVE_WINDOW
-}
-
-// Whether a credit is within its limits.
-pub fn credit_ok(bytes: u32) -> bool
-    ensures { λ r. ⌜ r ≡ creditOk bytes ⌝ }
-{
-    if bytes == 0 {
-        return false;
-    }
-    bytes <= OUTER_MAX_RECEIVE_WINDOW
-}
-
-// The four bytes of a value that is accepted.
-fn encoded(value: u32) -> EncodedPayload
-    ensures { λ r. ⌜ r ≡ acceptedEncoding value ⌝ }
-{
-    EncodedPayload {
-        refusal: Refusal::none(),
-        payload: u32_to_le_bytes(value),
-    }
-}
-
-// No payload is given.
-fn not_encoded(number: u8) -> EncodedPayload
-    ensures { λ r. ⌜ r ≡ refusedEncoding number ⌝ }
-{
-    EncodedPayload {
-        refusal: Refusal::new(number, 0, 0, 0),
-        payload: [0u8; 4],
-    }
-}
-
-// A value that is accepted.
-fn decoded(value: u32) -> DecodedPayload
-    ensures { λ r. ⌜ r ≡ acceptedDecoding value ⌝ }
-{
-    DecodedPayload {
-        refusal: Refusal::none(),
-        value,
-    }
-}
-
-// No value is given.
-fn not_decoded(number: u8) -> DecodedPayload
-    ensures { λ r. ⌜ r ≡ refusedDecoding number ⌝ }
-{
-    DecodedPayload {
-        refusal: Refusal::new(number, 0, 0, 0),
-        value: 0,
-    }
-}
-
-// The number of a four-byte ACK, CREDIT or ERROR payload; 0 where it is not four bytes.
-pub fn value(payload: &[u8]) -> u32
-    ensures { λ r. ⌜ r ≡ valueOf (now (payload .entry)) ⌝ }
-{
-    if payload.len() != 4 {
-        return 0;
-    }
-    u32_from_le_bytes([payload[0], payload[1], payload[2], payload[3]])
-}
-
-// Encodes the initial receive window of an ACK record.
-pub fn encode_ack_payload(window: u32) -> EncodedPayload
-    ensures { λ r. ⌜ r ≡ encodeAckPayload window ⌝ }
-{
-    if window_ok(window) {
-        return encoded(window);
-    }
-    not_encoded(27)
-}
-
-// Decodes the initial receive window of an ACK record.
-pub fn decode_ack_payload(payload: &[u8]) -> DecodedPayload
-    ensures { λ r. ⌜ r ≡ decodeAckPayload (now (payload .entry)) ⌝ }
-{
-    if payload.len() != 4 {
-        return not_decoded(29);
-    }
-    let window = value(payload);
-    if window_ok(window) {
-        return decoded(window);
-    }
-    not_decoded(27)
-}
-
-// Encodes the number of consumed bytes of a CREDIT record.
-pub fn encode_credit_payload(bytes: u32) -> EncodedPayload
-    ensures { λ r. ⌜ r ≡ encodeCreditPayload bytes ⌝ }
-{
-    if credit_ok(bytes) {
-        return encoded(bytes);
-    }
-    not_encoded(28)
-}
-
-// Decodes the number of consumed bytes of a CREDIT record.
-pub fn decode_credit_payload(payload: &[u8]) -> DecodedPayload
-    ensures { λ r. ⌜ r ≡ decodeCreditPayload (now (payload .entry)) ⌝ }
-{
-    if payload.len() != 4 {
-        return not_decoded(29);
-    }
-    let bytes = value(payload);
-    if credit_ok(bytes) {
-        return decoded(bytes);
-    }
-    not_decoded(28)
 }

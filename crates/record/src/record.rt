@@ -1,5 +1,5 @@
 // Records: what a header says as a value, and what a record answers when asked.
-use protocol::outer::value;
+use payloads::value;
 use types::ErrorCode;
 use types::ErrorLookup;
 use types::RecordType;

@@ -36,34 +36,37 @@ fn counts(parser: RecordParser) {
 pub fn pushed<'a>(pushed: Pushed, taken: u64, piece: &'a [u8], stage: &'a [u8]) {
     print::labelled(b"taken ", taken);
     print::text(b" ");
-    let refused = pushed.refusal;
-    let record = pushed.record;
     let place = pushed.place;
-    let parser = pushed.parser;
-    if refused.number != 0 {
-        refusal(refused);
+    if pushed.refusal.number != 0 {
+        refusal(pushed.refusal);
     } else if pushed.complete {
-        complete(record, place, piece, stage);
+        complete(pushed.record, place, piece, stage);
     } else {
         print::text(b"no record");
     }
-    counts(parser);
+    counts(pushed.parser);
     print::end_line();
 }
 
-// A record's fields, the numbers in its payload, and the payload's first four bytes.
+// A record's fields, and what its payload holds.
 fn complete<'a>(record: Record, place: Place, piece: &'a [u8], stage: &'a [u8]) {
-    let instance = record.instance_id();
-    let bytes = payload(piece, stage, place, record.length());
     print::labelled(b"type ", record.record_type().code() as u64);
-    print::text(b" instance ");
-    print::hex(&instance);
-    print::labelled(b" epoch ", record.epoch().0);
-    print::labelled(b" sequence ", record.sequence().0);
-    print::labelled(b" length ", record.length() as u64);
+    let instance_id = record.instance_id();
+    let length = record.length();
+    print::fields(&instance_id, record.epoch().0, record.sequence().0, length);
+    values(record, payload(piece, stage, place, length));
+}
+
+// The numbers in a record's payload, and the payload's first four bytes.
+fn values(record: Record, bytes: &[u8]) {
     number(b" window ", record.window(bytes));
     number(b" credit ", record.credit(bytes));
     error_code(record.error_code(bytes));
+    first(bytes);
+}
+
+// A payload's first four bytes where it has any.
+fn first(bytes: &[u8]) {
     if bytes.len() != 0 {
         print::text(b" payload ");
         print::hex(start(bytes));

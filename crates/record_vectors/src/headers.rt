@@ -47,40 +47,29 @@ pub fn wrong() {
     changed(43, 1, 44, 0);
 }
 
+// A record whose instance is zero but for its last byte, with a payload.
+fn numbered(record_type: RecordType, last: u8, epoch: u64, sequence: u64, payload: &[u8]) {
+    let mut instance_id = [0u8; 16];
+    instance_id[15] = last;
+    let fields = Fields {
+        instance_id,
+        epoch: Epoch(epoch),
+        sequence: Sequence(sequence),
+    };
+    there_and_back(record_type, fields, payload, 80);
+}
+
 // Bootstrap records with one field that is not zero: the last byte of the instance, the epoch, the
 // sequence.
 fn identity(record_type: RecordType, payload: &[u8]) {
-    let mut last = [0u8; 16];
-    last[15] = 1;
-    let zero = [0u8; 16];
-    let named = Fields {
-        instance_id: last,
-        epoch: Epoch(0),
-        sequence: Sequence(0),
-    };
-    there_and_back(record_type, named, payload, 80);
-    let later = Fields {
-        instance_id: zero,
-        epoch: Epoch(1),
-        sequence: Sequence(0),
-    };
-    there_and_back(record_type, later, payload, 80);
-    let numbered = Fields {
-        instance_id: zero,
-        epoch: Epoch(0),
-        sequence: Sequence(1),
-    };
-    there_and_back(record_type, numbered, payload, 80);
+    numbered(record_type, 1, 0, 0, payload);
+    numbered(record_type, 0, 1, 0, payload);
+    numbered(record_type, 0, 0, 1, payload);
 }
 
 // Types 1 and 2; then a RESET whose fields are all zero, which the record layer accepts.
 pub fn identities() {
     identity(RecordType::GuestAttach, b"");
     identity(RecordType::HostAttach, &[0x33u8; 32]);
-    let zero = Fields {
-        instance_id: [0u8; 16],
-        epoch: Epoch(0),
-        sequence: Sequence(0),
-    };
-    there_and_back(RecordType::Reset, zero, b"", 80);
+    numbered(RecordType::Reset, 0, 0, 0, b"");
 }

@@ -13,6 +13,6 @@ fn main() {
     values::errors();
     headers::wrong();
     headers::identities();
-    streams::all_ones();
-    streams::two_records();
+    streams::all_ones(&mut [0xAAu8; 65536]);
+    streams::two_records(&mut [0xAAu8; 65536]);
 }

@@ -39,11 +39,12 @@ fn title(name: &[u8], record_type: RecordType, fields: Fields, payload: &[u8]) {
     let instance_id = fields.instance_id;
     print::text(name);
     print::labelled(b" type ", record_type.code() as u64);
-    print::text(b" instance ");
-    print::hex(&instance_id);
-    print::labelled(b" epoch ", fields.epoch.0);
-    print::labelled(b" sequence ", fields.sequence.0);
-    print::labelled(b" length ", payload.len() as u64);
+    print::fields(
+        &instance_id,
+        fields.epoch.0,
+        fields.sequence.0,
+        payload.len(),
+    );
     if payload.len() == 4 {
         print::text(b" payload ");
         print::hex(payload);

@@ -16,17 +16,16 @@ fn push(parser: RecordParser, piece: &[u8], stage: &mut [u8]) -> RecordParser {
 }
 
 // M5: 43 bytes FF are taken, and one more gives 1, which later pushes give again.
-pub fn all_ones() {
-    let mut stage = [0xAAu8; 65536];
+pub fn all_ones(stage: &mut [u8]) {
     let ones = [0xFFu8; 43];
-    let waiting = push(RecordParser::new(), &ones, &mut stage);
-    let failed = push(waiting, b"\xFF", &mut stage);
-    let again = push(failed, b"", &mut stage);
-    push(again, &ones, &mut stage);
+    let waiting = push(RecordParser::new(), &ones, stage);
+    let failed = push(waiting, b"\xFF", stage);
+    let again = push(failed, b"", stage);
+    push(again, &ones, stage);
 }
 
 // A CREDIT and a DATA one behind the other: a push takes one record and no byte of the next.
-pub fn two_records() {
+pub fn two_records(stage: &mut [u8]) {
     let mut bytes = [0u8; 95];
     let instance = [0x22u8; 16];
     let first = encode_record(
@@ -49,8 +48,7 @@ pub fn two_records() {
     );
     answers::written(first);
     answers::written(second);
-    let mut stage = [0xAAu8; 65536];
-    let after_credit = push(RecordParser::new(), &bytes, &mut stage);
-    let within_data = push(after_credit, &bytes[48..93], &mut stage);
-    push(within_data, &bytes[93..95], &mut stage);
+    let after_credit = push(RecordParser::new(), &bytes, stage);
+    let within_data = push(after_credit, &bytes[48..93], stage);
+    push(within_data, &bytes[93..95], stage);
 }

@@ -1,9 +1,9 @@
 // The calls of the plain layer, and the record encoder beside its own: operations 40 to 46.
 use crate::record_calls;
 use copying::copy_at;
+use payloads::DecodedPayload;
+use payloads::EncodedPayload;
 use protocol::outer::DecodedHeader;
-use protocol::outer::DecodedPayload;
-use protocol::outer::EncodedPayload;
 use protocol::outer::Written;
 use protocol::outer::encode_outer;
 use replay_answer::answer::Answer;
@@ -133,9 +133,9 @@ pub fn call(f: Frame, input: &[u8], memory: &mut [u8]) -> Answer {
     match op {
         40 | 41 => encode(f, input, memory),
         42 => decode(input),
-        43 => encoded(protocol::outer::encode_ack_payload(low(f.a))),
-        44 => decoded(protocol::outer::decode_ack_payload(input)),
-        45 => encoded(protocol::outer::encode_credit_payload(low(f.a))),
-        _ => decoded(protocol::outer::decode_credit_payload(input)),
+        43 => encoded(payloads::encode_ack_payload(low(f.a))),
+        44 => decoded(payloads::decode_ack_payload(input)),
+        45 => encoded(payloads::encode_credit_payload(low(f.a))),
+        _ => decoded(payloads::decode_credit_payload(input)),
     }
 }

@@ -1,3 +1,3 @@
-// What the two ends of a session share (nvxs/mod.rs): identities, the checks on sequence and
-// identity, and the encoders of the next record.
+// What the two ends of a session share (nvxs/mod.rs): identities, and the checks on sequence and
+// identity.
 pub mod session;

@@ -1,20 +1,15 @@
-// Identities, the shared checks, and the encoders of the next record of a direction.
-use codec::all_zero;
-use codec::encode_record;
-use protocol::outer::OUTER_MAX_PAYLOAD;
+// Identities and the shared checks.
+use checks::all_zero;
 use record::record::Record;
 use types::RecordType;
 use wire::Epoch;
 use wire::Sequence;
-use wire::bytes::least;
 use wire::refusal::Refusal;
 ghost use mathlib.Core.Path.{_≡_};
 ghost use mathlib.Core.List.{[], _∷_};
-ghost use lib.ListN.{length};
 ghost use Rattle.wire.specs.Refusals.{first};
 ghost use Rattle.types.specs.Types.{codeOf};
 ghost use Rattle.session.specs.Checks.{identityOf, same, noIdentity, identityOk, holds, shown, recordIdentity, nextSequence, sequenceRow, otherInstance, instanceRow, epochRow};
-ghost use Rattle.session.specs.Writes.{outcome, notEncoded, encodeNext, encodeData};
 
 // Identity of one epoch of a session.
 pub struct Identity {
@@ -31,15 +26,6 @@ pub struct OptionalIdentity {
 // The sequence after another, or the refusal.
 pub struct NextSequence {
     pub refusal: Refusal,
-    pub sequence: Sequence,
-}
-
-// What encoding the next record answers: bytes of data taken, the position after the record and the
-// sequence after it.
-pub struct Encoded {
-    pub refusal: Refusal,
-    pub count: usize,
-    pub next: usize,
     pub sequence: Sequence,
 }
 
@@ -86,9 +72,8 @@ impl OptionalIdentity {
         if !self.present {
             return false;
         }
-        let identity = self.identity;
-        let instance_id = identity.instance_id;
-        is_identity(instance_id, identity.epoch)
+        let instance_id = self.identity.instance_id;
+        is_identity(instance_id, self.identity.epoch)
     }
 
     // The identity where one is held, else none.
@@ -196,98 +181,8 @@ pub fn check_identity(actual: Identity, expected: Identity) -> Refusal
     if refusal.number != 0 {
         return refusal;
     }
-    let actual_epoch = actual.epoch;
-    let expected_epoch = expected.epoch;
-    if actual_epoch.0 == expected_epoch.0 {
+    if actual.epoch.0 == expected.epoch.0 {
         return Refusal::none();
     }
-    Refusal::new(13, expected_epoch.0, actual_epoch.0, 0)
-}
-
-// Encodes the next record of a direction, of which `count` bytes of data are told.
-fn encode_counted(
-    record_type: RecordType,
-    identity: Identity,
-    sequence: Sequence,
-    count: usize,
-    payload: &[u8],
-    output: &mut [u8],
-    at: usize,
-) -> Encoded
-    ensures { λ r. ⌜ outcome r (now (output .exit)) ≡ encodeNext (codeOf «record_type») identity (sequence .0) count (now (payload .entry)) (now (output .entry)) at ⌝ }
-{
-    let next = next_sequence(sequence, record_type);
-    let following = next.sequence;
-    let missing = next.refusal;
-    if missing.number != 0 {
-        return not_encoded(missing, sequence);
-    }
-    let instance_id = identity.instance_id;
-    let written = encode_record(
-        record_type,
-        instance_id,
-        identity.epoch,
-        sequence,
-        payload,
-        output,
-        at,
-    );
-    let refusal = written.refusal;
-    if refusal.number != 0 {
-        return not_encoded(refusal, sequence);
-    }
-    Encoded {
-        refusal: Refusal::none(),
-        count,
-        next: written.next,
-        sequence: following,
-    }
-}
-
-// Nothing is encoded.
-fn not_encoded(refusal: Refusal, sequence: Sequence) -> Encoded
-    ensures { λ r. ⌜ r ≡ notEncoded refusal (sequence .0) ⌝ }
-{
-    Encoded {
-        refusal,
-        count: 0,
-        next: 0,
-        sequence,
-    }
-}
-
-// Encodes the next record of a direction.
-pub fn encode_next(
-    record_type: RecordType,
-    identity: Identity,
-    sequence: Sequence,
-    payload: &[u8],
-    output: &mut [u8],
-    at: usize,
-) -> Encoded
-    ensures { λ r. ⌜ outcome r (now (output .exit)) ≡ encodeNext (codeOf «record_type») identity (sequence .0) 0 (now (payload .entry)) (now (output .entry)) at ⌝ }
-{
-    encode_counted(record_type, identity, sequence, 0, payload, output, at)
-}
-
-// Encodes a DATA record of at most the first 65,536 bytes, and says how many it took.
-pub fn encode_data(
-    identity: Identity,
-    sequence: Sequence,
-    bytes: &[u8],
-    output: &mut [u8],
-    at: usize,
-) -> Encoded
-    ensures { λ r. ⌜ outcome r (now (output .exit)) ≡ encodeData identity (sequence .0) (now (bytes .entry)) (now (output .entry)) at ⌝ }
-{
-    let taken = least(bytes.len(), OUTER_MAX_PAYLOAD);
-    encode_counted(
-        RecordType::Data,
-        identity,
-        sequence,
-        taken,
-        &bytes[0..taken],
-        output,
-        at,
-    )
+    Refusal::new(13, expected.epoch.0, actual.epoch.0, 0)
 }

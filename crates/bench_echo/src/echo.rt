@@ -1,0 +1,245 @@
+// A host and a guest with a relay between them: the host sends a message, the guest sends it back
+// and credits it, and the relay gives the guest's DATA the sequence that the host expects.
+use crate::start::attached_host;
+use bench_core::parts::Sums;
+use bench_core::parts::add_payload;
+use bench_core::parts::cut;
+use bench_core::parts::no_sums;
+use bench_core::start::active_guest;
+use codec::encode_record;
+use guest::guest::GuestSession;
+use host::host::HostSession;
+use parser::parser::RecordParser;
+use record::record::Record;
+use types::RecordType;
+use wire::Sequence;
+ghost use mathlib.Core.Path.{_≡_};
+ghost use lib.ListN.{length};
+
+// The guest after a message, and where its answers end.
+pub struct GuestTurn {
+    pub guest: GuestSession,
+    pub next: usize,
+}
+
+// The relay after the guest's answers, the bytes of the DATA record, and where its own ends.
+pub struct RelayTurn {
+    pub parser: RecordParser,
+    pub consumed: usize,
+    pub next: usize,
+}
+
+// The host after the echo, and the sums.
+pub struct HostTurn {
+    pub host: HostSession,
+    pub sums: Sums,
+}
+
+// Both ends after the guest's answer, and where that ends.
+pub struct Answered {
+    pub host: HostSession,
+    pub guest: GuestSession,
+    pub next: usize,
+}
+
+// Both ends and the relay between them.
+pub struct Link {
+    pub host: HostSession,
+    pub guest: GuestSession,
+    pub parser: RecordParser,
+    pub sums: Sums,
+}
+
+fn low(x: usize) -> u32 {
+    (x % 4294967296) as u32
+}
+
+// The guest sends bytes back and credits them.
+fn answer(g: GuestSession, bytes: &[u8], reply: &mut [u8]) -> GuestTurn {
+    let sent = guest_calls::send(g, bytes, reply, 0);
+    let sending = sent.session;
+    let credited = guest_calls::credit(sending, low(bytes.len()), reply, sent.next);
+    let guest = credited.session;
+    GuestTurn {
+        guest,
+        next: credited.next,
+    }
+}
+
+// The guest receives a message and answers it.
+fn guest_turn(g: GuestSession, wire: &[u8], stage: &mut [u8], reply: &mut [u8]) -> GuestTurn {
+    let received = guest_receive::receive(g, wire, stage);
+    let active = received.session;
+    let place = received.place;
+    let bytes = guest_receive::payload(wire, stage, place, received.length);
+    answer(active, bytes, reply)
+}
+
+// Writes a DATA record with another sequence.
+fn rewrite(record: Record, sequence: u64, bytes: &[u8], wire: &mut [u8]) -> usize {
+    let instance_id = record.instance_id;
+    let written = encode_record(
+        RecordType::Data,
+        instance_id,
+        record.epoch,
+        Sequence(sequence),
+        bytes,
+        wire,
+        0,
+    );
+    written.next
+}
+
+// The relay reads the DATA record and writes it with another sequence.
+fn relay_data(
+    p: RecordParser,
+    sequence: u64,
+    reply: &[u8],
+    stage: &mut [u8],
+    wire: &mut [u8],
+) -> RelayTurn {
+    let data = parser_push::push(p, reply, stage);
+    let record = data.record;
+    let place = data.place;
+    let parser = data.parser;
+    let bytes = parser::parser::payload(reply, stage, place, record.length);
+    RelayTurn {
+        parser,
+        consumed: data.consumed,
+        next: rewrite(record, sequence, bytes, wire),
+    }
+}
+
+// The same, and the relay reads the CREDIT record.
+fn relay_turn(
+    p: RecordParser,
+    sequence: u64,
+    reply: &[u8],
+    stage: &mut [u8],
+    wire: &mut [u8],
+) -> RelayTurn {
+    let data = relay_data(p, sequence, reply, stage, wire);
+    let waiting = data.parser;
+    let credit = parser_push::push(waiting, cut(reply, data.consumed, reply.len()), stage);
+    let parser = credit.parser;
+    RelayTurn {
+        parser,
+        consumed: data.consumed,
+        next: data.next,
+    }
+}
+
+// The host receives the echo.
+fn host_turn(h: HostSession, wire: &[u8], stage: &mut [u8], sums: Sums, whole: bool) -> HostTurn {
+    let received = host_receive::receive(h, wire, stage);
+    let place = received.place;
+    let host = received.session;
+    let echo = host_receive::payload(wire, stage, place, received.length);
+    HostTurn {
+        host,
+        sums: add_payload(sums, echo, whole),
+    }
+}
+
+// The host sends a message, and the guest answers it.
+fn there(
+    h: HostSession,
+    g: GuestSession,
+    message: &[u8],
+    stage: &mut [u8],
+    wire: &mut [u8],
+    reply: &mut [u8],
+) -> Answered {
+    let sent = host_calls::send(h, message, wire, 0);
+    let host = sent.session;
+    let turn = guest_turn(g, cut(wire, 0, sent.next), stage, reply);
+    let guest = turn.guest;
+    Answered {
+        host,
+        guest,
+        next: turn.next,
+    }
+}
+
+// The relay hands on the guest's answer, and the host receives it.
+fn back(
+    link: Link,
+    sequence: u64,
+    whole: bool,
+    reply: &[u8],
+    stage: &mut [u8],
+    wire: &mut [u8],
+) -> Link {
+    let p = link.parser;
+    let relayed = relay_turn(p, sequence, reply, stage, wire);
+    let h = link.host;
+    let turn = host_turn(h, cut(wire, 0, relayed.next), stage, link.sums, whole);
+    let host = turn.host;
+    let guest = link.guest;
+    let parser = relayed.parser;
+    let sums = turn.sums;
+    Link {
+        host,
+        guest,
+        parser,
+        sums,
+    }
+}
+
+// One message there and back, with its sequence.
+fn turn(
+    link: Link,
+    sequence: u64,
+    message: &[u8],
+    whole: bool,
+    stage: &mut [u8],
+    wire: &mut [u8],
+    reply: &mut [u8],
+) -> Link {
+    let h = link.host;
+    let g = link.guest;
+    let t = there(h, g, message, stage, wire, reply);
+    let host = t.host;
+    let guest = t.guest;
+    let parser = link.parser;
+    let sums = link.sums;
+    let middle = Link {
+        host,
+        guest,
+        parser,
+        sums,
+    };
+    back(middle, sequence, whole, cut(reply, 0, t.next), stage, wire)
+}
+
+// A link whose ends are ready for DATA.
+fn ready(stage: &mut [u8]) -> Link {
+    Link {
+        host: attached_host(stage),
+        guest: active_guest(),
+        parser: RecordParser::new(),
+        sums: no_sums(),
+    }
+}
+
+// Sends a message there and back so many times, and gives the sums over the echoes.
+#[no_mangle]
+pub extern "C" fn nvxs_echo(
+    message: &[u8],
+    times: u32,
+    whole: bool,
+    stage: &mut [u8],
+    wire: &mut [u8],
+    reply: &mut [u8],
+) -> u64
+    ensures { λ _. ⌜ (length (now (stage .exit)) ≡ length (now (stage .entry))) × (length (now (wire .exit)) ≡ length (now (wire .entry))) × (length (now (reply .exit)) ≡ length (now (reply .entry))) ⌝ }
+{
+    let mut link = ready(stage);
+    let mut i: u32 = 0;
+    while i < times {
+        i += 1;
+        link = turn(link, i as u64, message, whole, stage, wire, reply);
+    }
+    let sums = link.sums;
+    sums.weighted
+}
