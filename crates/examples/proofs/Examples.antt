@@ -1,6 +1,7 @@
--- The worked examples hold by computation. An example over any payload of a given length computes once that length is put in its place.
--- Assumes nothing.
-use mathlib.Core.Path.{refl}
+-- The worked examples hold by computation. M4's, over any payload of a given length, compute once that length is put in its place
+-- (`data-read`). Assumes nothing.
+use mathlib.Core.Path.{refl, _∙_}
+use mathlib.Core.Bool.{Bool}
 use lib.ListN.{length}
 use borrow.Author.Tests.{le-leb}
 use Rattle.wire.specs.Bytes.{fromLe, toLe, overlay}
@@ -14,7 +15,17 @@ use Rattle.session.specs.Checks.{same, identityOk, holds}
 use Rattle.guest.specs.State.{soundGuest}
 use Rattle.guest_receive.specs.Receive.{acceptReset, acceptData, accept, afterPush, receive}
 use Rattle.guest_calls.specs.Calls.{writes, attach, acknowledge, send, credit}
-use Rattle.claims.specs.Examples.{MarkedExamples}
+use Rattle.wire.specs.declared.refusal.Refusal.{Refusal}
+use Rattle.parser.specs.Push.{Push}
+use Rattle.examples.specs.Examples.{MarkedExamples}
+use Rattle.examples.proofs.Payloads.{data-read}
+
+-- what is shown of a push
+abbrev refused : Push → Refusal
+refused u = u .answer .refusal
+
+abbrev complete : Push → Bool
+complete u = u .answer .complete
 
 pub marked : MarkedExamples
 unfolding fromLe toLe overlay first magicOf versionOf typeOf flagsOf instanceOf epochOf sequenceOf lengthOf headerBytes windowOk creditOk valueOf write
@@ -26,12 +37,22 @@ marked =
       m2 = (record { encoder = refl; parser = refl; whole = refl; guest = refl }, record { encoder = refl; parser = refl; whole = refl; guest = refl });
       m3 = (refl, (record { encoder = refl; parser = refl; whole = refl; guest = refl }, record { encoder = refl; parser = refl; whole = refl; guest = refl }));
       m4 = (
-        record { encoder = λ payload o e l. rw e; header = refl; parser = λ payload e. rw e; whole = λ payload e. rw e },
+        record { encoder = λ payload o e l. rw e; header = refl; parser = data-read refused 0; whole = data-read complete 0 },
         (
-          record { encoder = λ payload o e l. rw (e, le-leb 45 (length o) l); header = refl; parser = λ payload e. rw (e, e); whole = λ payload e. rw (e, e) },
+          record {
+            encoder = λ payload o e l. rw (e, le-leb 45 (length o) l);
+            header = refl;
+            parser = λ payload e. data-read refused 1 payload e ∙ rw e;
+            whole = λ payload e. data-read complete 1 payload e ∙ rw e;
+          },
           (
-            record { encoder = λ payload o e l. rw (e, le-leb 65580 (length o) l); header = refl; parser = λ payload e. rw (e, e); whole = λ payload e. rw (e, e) },
-            record { encoder = λ payload o e l. rw e; header = refl; parser = λ payload e. rw e; whole = λ payload e. rw e },
+            record {
+              encoder = λ payload o e l. rw (e, le-leb 65580 (length o) l);
+              header = refl;
+              parser = λ payload e. data-read refused 65536 payload e ∙ rw e;
+              whole = λ payload e. data-read complete 65536 payload e ∙ rw e;
+            },
+            record { encoder = λ payload o e l. rw e; header = refl; parser = data-read refused 65537; whole = data-read complete 65537 },
           ),
         ),
       );
