@@ -24,8 +24,8 @@ use Rattle.parser.specs.declared.parser.Place.the-variants.{Piece, Stage}
 use Rattle.parser.specs.declared.parser.Pushed.{Pushed}
 use Rattle.parser.proofs.Parts.{overlay-nothing}
 use Rattle.parser.proofs.Cases.{type-code}
-use Rattle.listing.specs.Reach.{refusedBytes}
-use Rattle.listing.proofs.Sums.{refused-header, refused-all}
+use Rattle.reach.specs.Reach.{refusedBytes}
+use Rattle.reach.proofs.Sums.{refused-header, refused-all}
 
 -- a push of a parser that holds b bytes, or read w of a refused record, lent a piece of n
 pub record Came (b w n : ℕ) (a : Pushed) : Type 0 where

@@ -15,8 +15,10 @@ use Rattle.wire.specs.declared.refusal.Refusal.{Refusal}
 use Rattle.wire.proofs.Rows.{pass-all, row-stops, row-passes}
 use Rattle.parser.specs.Push.{bufferedOf}
 use Rattle.parser.proofs.Parts.{part-end, take-min}
-use Rattle.decimal.specs.Decimal.{Puts}
-use Rattle.listing.specs.Listing.{names, ending, limit}
+use Rattle.decimal.specs.Decimal.{placed}
+use Rattle.lines.specs.Lines.{names, ending, putText}
+use Rattle.lines.proofs.Texts.{text-puts}
+use Rattle.reach.specs.Reach.{limit}
 use Rattle.listing.specs.Steps.{readOf, soundListing, listed, Outcome, outcome, stepOf, lines, soundRow, roomRow, listRows, readable, listOf, namesOf, endLine, endOf}
 use Rattle.listing.specs.declared.listing.Listing.{Listing}
 use Rattle.listing.specs.declared.listing.Listed.{Listed}
@@ -189,9 +191,11 @@ module _ (v : Refusal) (bytes o : List ℕ) where
   unfolding write
   write-not x e n = simp (ap (λ (y : Refusal). passes y) (sym e) ∙ ne-eqb (x .number) 0 n) (ap (λ (y : Refusal). outer.outcome (record { refusal = y; next = 0 }) o) e)
 
-  write-put : (x : Refusal) (next : ℕ) (o2 : List ℕ) → passes v ≡ true → x ≡ none → Puts o 0 bytes next o2 → outer.outcome (record { refusal = x; next = next }) o2 ≡ write v bytes o 0
+  write-put : (x : Refusal) (next : ℕ) (o2 : List ℕ) → passes v ≡ true → x ≡ none → 126 ≤ length o → placed next o2 ≡ putText o 0 bytes → outer.outcome (record { refusal = x; next = next }) o2 ≡ write v bytes o 0
   unfolding write
-  write-put x next o2 f e p = simp f (λ j. outer.outcome (record { refusal = e j; next = p .next j }) (p .bytes j))
+  write-put x next o2 f e h p =
+      let q = text-puts o 0 bytes next o2 h p in
+      simp f (λ j. outer.outcome (record { refusal = e j; next = q j .next }) (q j .output))
 
 not-0 : (n : ℕ) (x : Refusal) → x ≡ refusal n 0 0 0 → (n ≡ 0 → ⊥) → x .number ≡ 0 → ⊥
 not-0 n x e h z = h (sym (ap (λ (y : Refusal). y .number) e) ∙ z)
@@ -200,9 +204,9 @@ module _ (o : List ℕ) where
   pub names-22 : (x : Refusal) → length o < 126 → x ≡ refusal 22 0 0 0 → outer.outcome (record { refusal = x; next = 0 }) o ≡ namesOf o
   names-22 x h e = write-not _ _ _ x (row-stops _ _ x _ (lt-leb 126 (length o) h) e) (not-0 22 x e (λ z. omega arith))
 
-  pub names-put : (x : Refusal) (next : ℕ) (o2 : List ℕ) → 126 ≤ length o → x ≡ none → Puts o 0 names next o2
+  pub names-put : (x : Refusal) (next : ℕ) (o2 : List ℕ) → 126 ≤ length o → x ≡ none → placed next o2 ≡ putText o 0 names
       → outer.outcome (record { refusal = x; next = next }) o2 ≡ namesOf o
-  names-put x next o2 h = write-put _ _ _ x next o2 (pass-all (roomRow o ∷ []) (le-leb 126 (length o) h, tt))
+  names-put x next o2 h e = write-put _ _ _ x next o2 (pass-all (roomRow o ∷ []) (le-leb 126 (length o) h, tt)) e h
 
   module _ (s : Listing) (b : Bool) (eb : b ≡ soundListing s) where
     pub end-23 : (x : Refusal) → not b ≡ true → x ≡ refusal 23 0 0 0
@@ -216,12 +220,12 @@ module _ (o : List ℕ) where
           write-not _ _ _ x (row-passes _ _ x _ (sym eb ∙ not-false b n) (row-stops _ _ x _ (lt-leb 126 (length o) h) e)) (not-0 22 x e (λ z. omega arith))
 
       pub end-put : (x : Refusal) (next k : ℕ) (o2 : List ℕ) → 126 ≤ length o → x ≡ none → k ≡ bufferedOf (s .parser)
-          → Puts o 0 (ending (s .offset) (s .parser .error .number) k) next o2
+          → placed next o2 ≡ putText o 0 (ending (s .offset) (s .parser .error .number) k)
           → outer.outcome (record { refusal = x; next = next }) o2 ≡ endOf s o
       unfolding endLine
       end-put x next k o2 h e ek p =
-          write-put _ _ _ x next o2 (pass-all (soundRow s ∷ roomRow o ∷ []) (sym eb ∙ not-false b n, (le-leb 126 (length o) h, tt))) e
-          (subst (λ (j : ℕ). Puts o 0 (ending (s .offset) (s .parser .error .number) j) next o2) ek p)
+          write-put _ _ _ x next o2 (pass-all (soundRow s ∷ roomRow o ∷ []) (sym eb ∙ not-false b n, (le-leb 126 (length o) h, tt))) e h
+          (p ∙ ap (λ (j : ℕ). putText o 0 (ending (s .offset) (s .parser .error .number) j)) ek)
 
 pub ruleset naming = (names-22, names-put)
 

@@ -1,10 +1,9 @@
 // The listing's state by value, and the calls that write lines: the names, the records of a piece,
 // the last line.
-use crate::reach::adds_up;
-use crate::reach::refused_bytes;
-use crate::text::put_ending;
-use crate::text::put_line;
-use crate::text::put_names;
+use lines::LINE;
+use lines::put_ending;
+use lines::put_line;
+use lines::put_names;
 use parser::parser::Pushed;
 use parser::parser::RecordParser;
 use parser::parser::payload;
@@ -12,6 +11,9 @@ use parser_push::push;
 use protocol::outer::OUTER_MAX_PAYLOAD;
 use protocol::outer::Written;
 use protocol::outer::value;
+use reach::LIMIT;
+use reach::reached;
+use record::record::Record;
 use wire::refusal::Refusal;
 ghost use mathlib.Core.Path.{_≡_};
 ghost use mathlib.Core.Bool.{true};
@@ -20,14 +22,10 @@ ghost use lib.Dec.{leb};
 ghost use lib.ListN.{length};
 ghost use Rattle.wire.specs.Bytes.{overlay};
 ghost use Rattle.protocol.specs.Outer as outer;
-ghost use Rattle.listing.specs.Listing.{limit, openAfter};
-ghost use Rattle.listing.specs.Steps.{fresh, readOf, soundListing, listed, lineOf, recordListed, stepOf, lines, listOf, outcome, namesOf, endOf};
-
-// The room that a line may take: six numbers of up to 20 digits, and a byte after each.
-pub const LINE: usize = 126;
-
-// Reading ends here as at the end of the input: 2^62 bytes.
-pub const LIMIT: u64 = 4611686018427387904;
+ghost use Rattle.types.specs.Types.{codeOf};
+ghost use Rattle.listing.specs.Listing.{openAfter};
+ghost use Rattle.reach.specs.Reach.{limit};
+ghost use Rattle.listing.specs.Steps.{fresh, listingOf, readOf, soundListing, listed, lineOf, recordListed, stepOf, lines, listOf, outcome, namesOf, endOf};
 
 // The record under way in its parser, its offset in the capture, and 01's open before it.
 pub struct Listing {
@@ -63,19 +61,6 @@ fn least(a: usize, b: u64) -> usize
     if b < a as u64 { b as usize } else { a }
 }
 
-// Whether at most 2^62 bytes were read.
-fn within_limit(offset: u64, held: u64, refused: u64) -> bool
-    ensures { λ r. ⌜ r ≡ leb ((offset + held) + refused) limit ⌝ }
-{
-    if LIMIT < offset {
-        return false;
-    }
-    if LIMIT - offset < held {
-        return false;
-    }
-    refused <= LIMIT - offset - held
-}
-
 // What a CREDIT leaves of open: its value is taken off, or all of open if that is less.
 fn credited(open: u64, amount: u64) -> u64
     ensures { λ r. ⌜ r ≡ «open» - amount ⌝ }
@@ -103,6 +88,14 @@ fn open_after(open: u64, code: u8, size: usize, payload: &[u8]) -> u64
     open
 }
 
+// The code of a record's type.
+fn code_of(record: Record) -> u8
+    ensures { λ r. ⌜ r ≡ codeOf («record» .«record_type») ⌝ }
+{
+    let record_type = record.record_type;
+    record_type.code()
+}
+
 // A record is complete: its line, and the state after it.
 fn record_line(
     listing: Listing,
@@ -114,20 +107,16 @@ fn record_line(
     requires { ⌜ (at + 126 ≤ length (now output)) × (listing .«open» ≤ listing .offset) × (listing .offset + (44 + pushed .«record» .length) < 2 ^ 64) ⌝ }
     ensures { λ r. ⌜ (r ≡ recordListed listing pushed (now (payload .entry)) at) × (now (output .exit) ≡ overlay (now (output .entry)) at (lineOf listing (pushed .«record») (now (payload .entry)))) ⌝ }
 {
-    let record = pushed.record;
-    let record_type = record.record_type;
-    let epoch = record.epoch;
-    let sequence = record.sequence;
-    let code = record_type.code();
-    let open = open_after(listing.open, code, record.length, payload);
+    let code = code_of(pushed.record);
+    let open = open_after(listing.open, code, pushed.record.length, payload);
     let written = put_line(
         output,
         at,
         listing.offset,
         code as u64,
-        epoch.0,
-        sequence.0,
-        record.length as u64,
+        pushed.record.epoch.0,
+        pushed.record.sequence.0,
+        pushed.record.length as u64,
         open,
     );
     let empty = pushed.parser;
@@ -137,25 +126,16 @@ fn record_line(
         written,
         listing: Listing {
             parser: empty,
-            offset: listing.offset + (44 + record.length as u64),
+            offset: listing.offset + (44 + pushed.record.length as u64),
             open,
         },
     }
 }
 
-// One push, and the line of the record that it completes.
-fn step(listing: Listing, piece: &[u8], stage: &mut [u8], output: &mut [u8], at: usize) -> Listed
-    requires { ⌜ (soundListing listing ≡ true) × (65536 ≤ length (now stage)) × (at + 126 ≤ length (now output)) × (readOf listing + length (now piece) ≤ limit) ⌝ }
-    ensures { λ r. ⌜ outcome r (now (stage .exit)) (now (output .exit)) ≡ stepOf listing (now (piece .entry)) (now (stage .entry)) (now (output .entry)) at ⌝ }
+// No record is complete, so there is no line.
+fn no_line(listing: Listing, pushed: Pushed, at: usize) -> Listed
+    ensures { λ r. ⌜ r ≡ listed (pushed .refusal) (pushed .consumed) at (listingOf (pushed .parser) (listing .offset) (listing .«open»)) ⌝ }
 {
-    let parser = listing.parser;
-    let pushed = push(listing.parser, piece, stage);
-    if pushed.complete {
-        let record = pushed.record;
-        let place = pushed.place;
-        let bytes = payload(piece, stage, place, record.length);
-        return record_line(listing, pushed, bytes, output, at);
-    }
     let refusal = pushed.refusal;
     let parser = pushed.parser;
     Listed {
@@ -168,6 +148,20 @@ fn step(listing: Listing, piece: &[u8], stage: &mut [u8], output: &mut [u8], at:
             open: listing.open,
         },
     }
+}
+
+// One push, and the line of the record that it completes.
+fn step(listing: Listing, piece: &[u8], stage: &mut [u8], output: &mut [u8], at: usize) -> Listed
+    requires { ⌜ (soundListing listing ≡ true) × (65536 ≤ length (now stage)) × (at + 126 ≤ length (now output)) × (readOf listing + length (now piece) ≤ limit) ⌝ }
+    ensures { λ r. ⌜ outcome r (now (stage .exit)) (now (output .exit)) ≡ stepOf listing (now (piece .entry)) (now (stage .entry)) (now (output .entry)) at ⌝ }
+{
+    let pushed = push(listing.parser, piece, stage);
+    if pushed.complete {
+        let place = pushed.place;
+        let bytes = payload(piece, stage, place, pushed.record.length);
+        return record_line(listing, pushed, bytes, output, at);
+    }
+    no_line(listing, pushed, at)
 }
 
 // Record by record, while bytes are left, nothing is refused and the output has room for a line.
@@ -249,12 +243,12 @@ impl Listing {
         if buffered.refusal.number != 0 {
             return false;
         }
-        let error = parser.error;
-        let refused = refused_bytes(error.number);
-        if !within_limit(self.offset, buffered.count as u64, refused) {
-            return false;
-        }
-        adds_up(self.offset, self.open)
+        reached(
+            self.offset,
+            self.open,
+            buffered.count as u64,
+            self.parser.error.number,
+        )
     }
 
     // How many of `size` bytes more are read before reading ends.
