@@ -1,6 +1,6 @@
 -- The cases of the listing's rules, a law for each `return` of the code: what was tested there, and what is answered. Assumes nothing.
 use Prim.Native.Nat.{ℕ, _+_, _-_, _^_, _≤_, _<_}
-use mathlib.Core.Path.{_≡_, sym, ap, _∙_}
+use mathlib.Core.Path.{_≡_, refl, sym, ap, _∙_}
 use mathlib.Core.Bool.{Bool, true, false, not, _&&_}
 use mathlib.Core.List.{List}
 use native.Mathlib.Omega.{arith}
@@ -126,30 +126,34 @@ module _ (o code size : ℕ) (payload : List ℕ) where
 pub ruleset opening = (opens-reset, opens-data, opens-credit, opens-other)
 
 -- ---- a record's line
-pub record-line : (s : Listing) (a : Pushed) (payload o : List ℕ) {e : List ℕ} (at code p : ℕ) {written : ℕ} (x : Refusal) → at + 126 ≤ length o
-    → code ≡ codeOf (a .«record» .«record_type») → p ≡ openAfter (s .«open») code (a .«record» .length) payload → x ≡ none
-    → placed written e ≡ putText o at (line (s .offset) code (a .«record» .epoch .0) (a .«record» .sequence .0) (a .«record» .length) p)
-    → (listed x (a .consumed) written (listingOf (a .parser) (s .offset + (44 + a .«record» .length)) p) ≡ recordListed s a payload at)
-    × (e ≡ overlay o at (lineOf s (a .«record») payload))
-unfolding recordListed lineOf
-record-line s a payload o {e} at code p {written} x room ec ep ex h =
-    let text : List ℕ = line (s .offset) code (a .«record» .epoch .0) (a .«record» .sequence .0) (a .«record» .length) p in
-    let w : placed written e ≡ placed (at + length text) (overlay o at text) = text-puts o at text written e room h in
-    let q : p ≡ opens s (a .«record») payload = ep ∙ ap (λ (k : ℕ). openAfter (s .«open») k (a .«record» .length) payload) ec in
-    let l : text ≡ lineOf s (a .«record») payload =
-    λ j. line (s .offset) (ec j) (a .«record» .epoch .0) (a .«record» .sequence .0) (a .«record» .length) (q j)
-    in (
-      λ j. listed (ex j) (a .consumed) ((ap (λ (d : Placed). d .next) w ∙ ap (λ (t : List ℕ). at + length t) l) j)
-      (listingOf (a .parser) (s .offset + (44 + a .«record» .length)) (q j)),
-      ap (λ (d : Placed). d .output) w ∙ ap (overlay o at) l,
-    )
+module _ (offset o : ℕ) (a : Pushed) where
+  abbrev from : Listing
+  from = listingOf (a .parser) offset o
+
+  pub record-line : (payload d : List ℕ) {e : List ℕ} (at code p : ℕ) {written : ℕ} (x : Refusal) → at + 126 ≤ length d
+      → code ≡ codeOf (a .«record» .«record_type») → p ≡ openAfter o code (a .«record» .length) payload → x ≡ none
+      → placed written e ≡ putText d at (line offset code (a .«record» .epoch .0) (a .«record» .sequence .0) (a .«record» .length) p)
+      → (listed x (a .consumed) written (listingOf (a .parser) (offset + (44 + a .«record» .length)) p) ≡ recordListed from a payload at)
+      × (e ≡ overlay d at (lineOf from (a .«record») payload))
+  unfolding recordListed lineOf
+  record-line payload d {e} at code p {written} x room ec ep ex h =
+      let text : List ℕ = line offset code (a .«record» .epoch .0) (a .«record» .sequence .0) (a .«record» .length) p in
+      let w : placed written e ≡ placed (at + length text) (overlay d at text) = text-puts d at text written e room h in
+      let q : p ≡ opens from (a .«record») payload = ep ∙ ap (λ (k : ℕ). openAfter o k (a .«record» .length) payload) ec in
+      let l : text ≡ lineOf from (a .«record») payload =
+      λ j. line offset (ec j) (a .«record» .epoch .0) (a .«record» .sequence .0) (a .«record» .length) (q j)
+      in (
+        λ j. listed (ex j) (a .consumed) ((ap (λ (y : Placed). y .next) w ∙ ap (λ (y : List ℕ). at + length y) l) j)
+        (listingOf (a .parser) (offset + (44 + a .«record» .length)) (q j)),
+        ap (λ (y : Placed). y .output) w ∙ ap (overlay d at) l,
+      )
 
 -- ---- one push
 module _ (s : Listing) (piece stage output : List ℕ) (at : ℕ) (a : Pushed) (after : List ℕ) (e : parser.outcome a after ≡ pushOf (s .parser) piece stage) where
   pub step-line : (payload o2 : List ℕ) (r : Listed) → a .complete ≡ true → payload ≡ payloadAt (a .place) (a .«record» .length) piece after
-      → (r ≡ recordListed s a payload at) × (o2 ≡ overlay output at (lineOf s (a .«record») payload))
+      → (r ≡ recordListed (from (s .offset) (s .«open») a) a payload at) × (o2 ≡ overlay output at (lineOf (from (s .offset) (s .«open») a) (a .«record») payload))
       → outcome r after o2 ≡ stepOf s piece stage output at
-  unfolding pushed
+  unfolding pushed recordListed lineOf
   step-line payload o2 r t ep w =
       (λ j. outcome ((w .0 ∙ ap (λ (y : List ℕ). recordListed s a y at) ep) j) after ((w .1 ∙ ap (λ (y : List ℕ). overlay output at (lineOf s (a .«record») y)) ep) j))
       ∙ sym
@@ -185,6 +189,7 @@ module _ (s : Listing) (piece stage output : List ℕ) (at : ℕ) (a : Pushed) (
 pub record Stepped (s : Listing) (n : ℕ) (r : Listed) : Type 0 where
   pub within : r .taken ≤ n
   pub some : passes (r .refusal) ≡ true → 0 < n → 0 < r .taken
+  pub nothing : passes (r .refusal) ≡ true → r .refusal ≡ none
   pub sound : soundListing (r .listing) ≡ true
   pub read : readOf (r .listing) ≤ readOf s + r .taken
 
@@ -210,6 +215,7 @@ module _ (s : Listing) (piece stage output : List ℕ) (at : ℕ) (t : soundList
       record {
         within = b .within;
         some = λ _. b .some (b .clear c);
+        nothing = λ _. refl;
         sound = from-facts _ (b .sound) (keeps (s .offset) (s .«open») (codeOf (a .«record» .«record_type»)) (a .«record» .length) y (b .sized c) (f .sums)) (omega (arith, b .within));
         read = omega arith;
       })
@@ -218,6 +224,7 @@ module _ (s : Listing) (piece stage output : List ℕ) (at : ℕ) (t : soundList
       record {
         within = b .within;
         some = b .some;
+        nothing = b .nothing;
         sound = from-facts _ (b .sound) (f .sums)
             (omega (arith, b .below (limit - s .offset) c (omega (arith, f .all)) (omega arith), f .read));
         read = omega arith;

@@ -19,7 +19,7 @@ use Rattle.decimal.specs.Decimal.{placed}
 use Rattle.lines.specs.Lines.{names, ending, putText}
 use Rattle.lines.proofs.Texts.{text-puts}
 use Rattle.reach.specs.Reach.{limit}
-use Rattle.listing.specs.Steps.{readOf, soundListing, listed, Outcome, outcome, stepOf, lines, soundRow, roomRow, listRows, readable, listOf, namesOf, endLine, endOf}
+use Rattle.listing.specs.Steps.{readOf, soundListing, listed, Outcome, outcome, stepOf, further, lines, soundRow, roomRow, listRows, readable, listOf, namesOf, endLine, endOf}
 use Rattle.listing.specs.declared.listing.Listing.{Listing}
 use Rattle.listing.specs.declared.listing.Listed.{Listed}
 use Rattle.listing.proofs.Cases.{Stepped, stepped}
@@ -66,9 +66,17 @@ pub record Going (s₀ : Listing) (piece stage₀ output₀ : List ℕ) (s : Lis
   pub stage-size : length stage ≡ length stage₀
   pub output-size : length output ≡ length output₀
 
-pub going-first : (s : Listing) (piece stage output : List ℕ) → soundListing s ≡ true → readOf s + length piece ≤ limit → Going s piece stage output s stage output 0 0
+going-first : (s : Listing) (piece stage output : List ℕ) → soundListing s ≡ true → readOf s + length piece ≤ limit → Going s piece stage output s stage output 0 0
 going-first s piece stage output t l =
     record { fuel = length piece; enough = omega arith; within = omega arith; same = refl; sound = t; read = omega arith; stage-size = refl; output-size = refl }
+
+pub going-start : (d : Listed) (piece stage output : List ℕ) → d ≡ listed none 0 0 (d .listing) → soundListing (d .listing) ≡ true
+    → readOf (d .listing) + length piece ≤ limit → Going (d .listing) piece stage output (d .listing) stage output (d .taken) (d .written) × (d .refusal ≡ none)
+going-start d piece stage output e t l = (
+  subst (λ (x : Listed). Going (d .listing) piece stage output (d .listing) stage output (x .taken) (x .written)) (sym e)
+  (going-first (d .listing) piece stage output t l),
+  ap (λ (x : Listed). x .refusal) e,
+)
 
 module _ {s₀ : Listing} {piece stage₀ output₀ : List ℕ} {s : Listing} {stage output : List ℕ} {taken at : ℕ} (g : Going s₀ piece stage₀ output₀ s stage output taken at) where
   pub going-end : (x : Refusal) → x ≡ none → length piece ≤ taken → outcome (listed x taken at s) stage output ≡ lines (length piece) s₀ piece stage₀ output₀ 0 0
@@ -80,46 +88,52 @@ module _ {s₀ : Listing} {piece stage₀ output₀ : List ℕ} {s : Listing} {s
       ap (λ (y : Refusal). outcome (listed y taken at s) stage output) e ∙ sym (lines-full s piece stage output taken at (g .fuel) h (omega (arith, g .output-size))) ∙ g .same
 
   module _ (r : Listed) (after o2 : List ℕ) (h : taken < length piece) (l : at + 126 ≤ length output)
-      (e : outcome r after o2 ≡ stepOf s (take (length piece - taken) (drop taken piece)) stage output at) where
-    told : outcome r after o2 ≡ stepOf s (drop taken piece) stage output at
-    told = e ∙ ap (λ (x : List ℕ). stepOf s x stage output at) (part-end taken piece)
-
+      (e : outcome r after o2 ≡ further taken (stepOf s (drop taken piece) stage output at)) where
     rest-length : length (drop taken piece) ≡ length piece - taken
     rest-length = length-drop taken piece
 
-    pub went : Stepped s (length (drop taken piece)) r
-    went =
-        let q = rest-length in
-        subst (λ (x : Outcome). Stepped s (length (drop taken piece)) (x .listed)) (sym told) (stepped s (drop taken piece) stage output at (g .sound) (omega (arith, g .read, g .within)))
+    went : Stepped s (length (drop taken piece)) (stepOf s (drop taken piece) stage output at .listed)
+    went = let q = rest-length in stepped s (drop taken piece) stage output at (g .sound) (omega (arith, g .read, g .within))
 
-    pub taken-within : taken + r .taken ≤ length piece
-    taken-within = let q = rest-length in omega (arith, went .within, g .within)
+    -- what the answer has of the push
+    same-refusal : r .refusal ≡ stepOf s (drop taken piece) stage output at .listed .refusal
+    same-refusal = ap (λ (x : Outcome). x .listed .refusal) e
 
-    pub taken-some : r .refusal .number ≡ 0 → 0 < r .taken
-    taken-some z = let q = rest-length in went .some (eq-eqb (r .refusal .number) 0 z) (omega arith)
+    same-taken : r .taken ≡ taken + stepOf s (drop taken piece) stage output at .listed .taken
+    same-taken = ap (λ (x : Outcome). x .listed .taken) e
+
+    same-listing : r .listing ≡ stepOf s (drop taken piece) stage output at .listed .listing
+    same-listing = ap (λ (x : Outcome). x .listed .listing) e
+
+    went-on : r .refusal .number ≡ 0 → passes (stepOf s (drop taken piece) stage output at .listed .refusal) ≡ true
+    went-on z = ap (λ (x : Refusal). passes x) (sym same-refusal) ∙ eq-eqb (r .refusal .number) 0 z
+
+    pub taken-within : r .taken ≤ length piece
+    taken-within = let q = rest-length in omega (arith, went .within, g .within, same-taken)
+
+    pub taken-some : r .refusal .number ≡ 0 → taken < r .taken
+    taken-some z = let q = rest-length in omega (arith, went .some (went-on z) (omega arith), same-taken)
 
     turn : (n : ℕ) (b : Bool) → passes (r .refusal) ≡ b → lines (suc n) s piece stage output taken at
-        ≡ pick b (lines n (r .listing) piece after o2 (taken + r .taken) (r .written)) (outcome (listed (r .refusal) (taken + r .taken) (r .written) (r .listing)) after o2)
+        ≡ pick b (lines n (r .listing) piece after o2 (r .taken) (r .written)) (outcome r after o2)
     turn n b q =
-        lines-step s piece stage output taken at n h l b (ap (λ (x : Outcome). passes (x .listed .refusal)) (sym told) ∙ q)
-        ∙ (λ j. pick b
-        (lines n (sym told j .listed .listing) piece (sym told j .stage) (sym told j .output) (taken + sym told j .listed .taken) (sym told j .listed .written))
-        (outcome (listed (sym told j .listed .refusal) (taken + sym told j .listed .taken) (sym told j .listed .written) (sym told j .listed .listing)) (sym told j .stage) (sym told j .output)))
+        lines-step s piece stage output taken at n h l b (ap (λ (x : Refusal). passes x) (sym same-refusal) ∙ q)
+        ∙ (λ j. pick b (lines n (sym e j .listed .listing) piece (sym e j .stage) (sym e j .output) (sym e j .listed .taken) (sym e j .listed .written)) (sym e j))
 
-    pub going-out : (r .refusal .number ≡ 0 → ⊥) → outcome (listed (r .refusal) (taken + r .taken) (r .written) (r .listing)) after o2 ≡ lines (length piece) s₀ piece stage₀ output₀ 0 0
+    pub going-out : (r .refusal .number ≡ 0 → ⊥) → outcome r after o2 ≡ lines (length piece) s₀ piece stage₀ output₀ 0 0
     going-out z = go (g .fuel) (g .enough) (g .same)
       where
         go : (n : ℕ) → length piece ≤ taken + n → lines n s piece stage output taken at ≡ lines (length piece) s₀ piece stage₀ output₀ 0 0
-            → outcome (listed (r .refusal) (taken + r .taken) (r .written) (r .listing)) after o2 ≡ lines (length piece) s₀ piece stage₀ output₀ 0 0
+            → outcome r after o2 ≡ lines (length piece) s₀ piece stage₀ output₀ 0 0
         go zero k w = absurd (omega arith)
         go (suc n) k w = sym (turn n false (ne-eqb (r .refusal .number) 0 z)) ∙ w
 
     pub going-on : r .refusal .number ≡ 0 → length after ≡ length stage → length o2 ≡ length output
-        → Going s₀ piece stage₀ output₀ (r .listing) after o2 (taken + r .taken) (r .written)
-    going-on z ls lo = go (g .fuel) (g .enough) (g .same)
+        → Going s₀ piece stage₀ output₀ (r .listing) after o2 (r .taken) (r .written) × (r .refusal ≡ none)
+    going-on z ls lo = (go (g .fuel) (g .enough) (g .same), same-refusal ∙ went .nothing (went-on z))
       where
         go : (n : ℕ) → length piece ≤ taken + n → lines n s piece stage output taken at ≡ lines (length piece) s₀ piece stage₀ output₀ 0 0
-            → Going s₀ piece stage₀ output₀ (r .listing) after o2 (taken + r .taken) (r .written)
+            → Going s₀ piece stage₀ output₀ (r .listing) after o2 (r .taken) (r .written)
         go zero k w = absurd (omega arith)
         go (suc n) k w =
             record {
@@ -127,13 +141,39 @@ module _ {s₀ : Listing} {piece stage₀ output₀ : List ℕ} {s : Listing} {s
               enough = omega (arith, taken-some z);
               within = taken-within;
               same = sym (turn n true (eq-eqb (r .refusal .number) 0 z)) ∙ w;
-              sound = went .sound;
-              read = omega (arith, went .read, g .read);
+              sound = ap soundListing same-listing ∙ went .sound;
+              read = omega (arith, ap readOf same-listing, went .read, g .read, same-taken);
               stage-size = ls ∙ g .stage-size;
               output-size = lo ∙ g .output-size;
             }
 
+-- ---- one push more
+pub turn-done : (d : Listed) (piece stage output : List ℕ) (r : Listed) (after o2 : List ℕ)
+    → outcome r after o2 ≡ stepOf (d .listing) (take (length piece - d .taken) (drop (d .taken) piece)) stage output (d .written)
+    → outcome (listed (r .refusal) (d .taken + r .taken) (r .written) (r .listing)) after o2
+    ≡ further (d .taken) (stepOf (d .listing) (drop (d .taken) piece) stage output (d .written))
+turn-done d piece stage output r after o2 e =
+    ap (further (d .taken)) (e ∙ ap (λ (x : List ℕ). stepOf (d .listing) x stage output (d .written)) (part-end (d .taken) piece))
+
+pub turn-fits : (d : Listed) (piece stage output : List ℕ) (r : Listed) (after o2 : List ℕ) → soundListing (d .listing) ≡ true
+    → readOf (d .listing) + length piece ≤ limit + d .taken → d .taken ≤ length piece
+    → outcome r after o2 ≡ stepOf (d .listing) (take (length piece - d .taken) (drop (d .taken) piece)) stage output (d .written)
+    → d .taken + r .taken ≤ length piece
+turn-fits d piece stage output r after o2 t l w e =
+    let q : length (drop (d .taken) piece) ≡ length piece - d .taken = length-drop (d .taken) piece in
+    let f = turn-done d piece stage output r after o2 e in
+    let k : d .taken + r .taken ≡ d .taken + stepOf (d .listing) (drop (d .taken) piece) stage output (d .written) .listed .taken =
+    ap (λ (x : Outcome). x .listed .taken) f
+    in omega (arith, k, stepped (d .listing) (drop (d .taken) piece) stage output (d .written) t (omega arith) .within)
+
 -- ---- the ways out of `list`
+-- with nothing done yet
+pub first-listing : (s : Listing) (x : Refusal) (d : Listed) → d ≡ listed x 0 0 s → d .listing ≡ s
+first-listing s x d e = ap (λ (y : Listed). y .listing) e
+
+pub first-done : (s : Listing) (x : Refusal) (d : Listed) → x ≡ none → d ≡ listed x 0 0 s → d ≡ listed none 0 0 (d .listing)
+first-done s x d q e = e ∙ (λ j. listed (q j) 0 0 (sym (first-listing s x d e) j))
+
 module _ (s : Listing) (piece stage output : List ℕ) (b : Bool) (eb : b ≡ soundListing s) where
   list-stops : (x : Refusal) (r : Listed) → x ≡ first (listRows s stage output) → (x .number ≡ 0 → ⊥) → r ≡ listed x 0 0 s → outcome r stage output ≡ listOf s piece stage output
   unfolding listOf
@@ -169,15 +209,15 @@ module _ (s : Listing) (piece stage output : List ℕ) (b : Bool) (eb : b ≡ so
             (row-passes _ _ _ _ is-sound (row-passes _ _ _ _ (le-leb 65536 (length stage) hs) (row-passes _ _ _ _ (le-leb 126 (length output) ho)
             (row-stops _ _ _ _ (ne-eqb (s .parser .error .number) 0 z) refl)))) z
 
-        pub list-lines : (k : ℕ) (r : Listed) (after o2 : List ℕ) → s .parser .error .number ≡ 0 → k ≡ min (limit - readOf s) (length piece)
-            → outcome r after o2 ≡ lines (length (take (k - 0) (drop 0 piece))) s (take (k - 0) (drop 0 piece)) stage output 0 0
+        pub list-lines : (k : ℕ) (d r : Listed) (after o2 : List ℕ) → s .parser .error .number ≡ 0 → k ≡ min (limit - readOf s) (length piece)
+            → d .listing ≡ s → outcome r after o2 ≡ lines (length (take (k - 0) (drop 0 piece))) (d .listing) (take (k - 0) (drop 0 piece)) stage output 0 0
             → outcome r after o2 ≡ listOf s piece stage output
         unfolding listOf
-        list-lines k r after o2 z ek e =
+        list-lines k d r after o2 z ek ed e =
             let n : k - 0 ≡ min (limit - readOf s) (length piece) = omega arith in
             let c : take (k - 0) (drop 0 piece) ≡ readable s piece = ap (λ (j : ℕ). take j piece) n ∙ take-min (limit - readOf s) piece in
             e
-            ∙ ap (λ (x : List ℕ). lines (length x) s x stage output 0 0) c
+            ∙ (λ j. lines (length (c j)) (ed j) (c j) stage output 0 0)
             ∙ sym
             (ap (λ (t : Bool). pick t (lines (length (readable s piece)) s (readable s piece) stage output 0 0) (outcome (listed (first (listRows s stage output)) 0 0 s) stage output))
             (pass-all (listRows s stage output)

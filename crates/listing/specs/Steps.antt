@@ -77,6 +77,11 @@ pushed s piece output at o =
 abbrev pub stepOf : Listing → List ℕ → List ℕ → List ℕ → ℕ → Outcome
 stepOf s piece stage output at = pushed s piece output at (pushOf (s .parser) piece stage)
 
+-- the same with n bytes of the piece taken before
+abbrev pub further : ℕ → Outcome → Outcome
+further n o =
+    outcome (listed (o .listed .refusal) (n + o .listed .taken) (o .listed .written) (o .listed .listing)) (o .stage) (o .output)
+
 -- ---- a piece
 -- record by record, while bytes are left, the output has room for a line and nothing is refused; at most n pushes
 unfoldable pub lines : ℕ → Listing → List ℕ → List ℕ → List ℕ → ℕ → ℕ → Outcome

@@ -19,13 +19,14 @@ ghost use mathlib.Core.Path.{_≡_};
 ghost use mathlib.Core.Bool.{true};
 ghost use Prim.Native.Nat.{_+_, _-_, _^_, _≤_, _<_, min};
 ghost use lib.Dec.{leb};
-ghost use lib.ListN.{length};
+ghost use lib.ListN.{length, drop};
 ghost use Rattle.wire.specs.Bytes.{overlay};
+ghost use Rattle.wire.specs.Refusals.{none};
 ghost use Rattle.protocol.specs.Outer as outer;
 ghost use Rattle.types.specs.Types.{codeOf};
 ghost use Rattle.listing.specs.Listing.{openAfter};
 ghost use Rattle.reach.specs.Reach.{limit};
-ghost use Rattle.listing.specs.Steps.{fresh, listingOf, readOf, soundListing, listed, lineOf, recordListed, stepOf, lines, listOf, outcome, namesOf, endOf};
+ghost use Rattle.listing.specs.Steps.{fresh, listingOf, readOf, soundListing, listed, lineOf, recordListed, stepOf, further, lines, listOf, outcome, namesOf, endOf};
 
 // The record under way in its parser, its offset in the capture, and 01's open before it.
 pub struct Listing {
@@ -96,23 +97,24 @@ fn code_of(record: Record) -> u8
     record_type.code()
 }
 
-// A record is complete: its line, and the state after it.
+// A record is complete: its line, and the state after it. Before it are `offset` bytes, and open.
 fn record_line(
-    listing: Listing,
+    offset: u64,
+    before: u64,
     pushed: Pushed,
     payload: &[u8],
     output: &mut [u8],
     at: usize,
 ) -> Listed
-    requires { ⌜ (at + 126 ≤ length (now output)) × (listing .«open» ≤ listing .offset) × (listing .offset + (44 + pushed .«record» .length) < 2 ^ 64) ⌝ }
-    ensures { λ r. ⌜ (r ≡ recordListed listing pushed (now (payload .entry)) at) × (now (output .exit) ≡ overlay (now (output .entry)) at (lineOf listing (pushed .«record») (now (payload .entry)))) ⌝ }
+    requires { ⌜ (at + 126 ≤ length (now output)) × (before ≤ offset) × (offset + (44 + pushed .«record» .length) < 2 ^ 64) ⌝ }
+    ensures { λ r. ⌜ (r ≡ recordListed (listingOf (pushed .parser) offset before) pushed (now (payload .entry)) at) × (now (output .exit) ≡ overlay (now (output .entry)) at (lineOf (listingOf (pushed .parser) offset before) (pushed .«record») (now (payload .entry)))) ⌝ }
 {
     let code = code_of(pushed.record);
-    let open = open_after(listing.open, code, pushed.record.length, payload);
+    let open = open_after(before, code, pushed.record.length, payload);
     let written = put_line(
         output,
         at,
-        listing.offset,
+        offset,
         code as u64,
         pushed.record.epoch.0,
         pushed.record.sequence.0,
@@ -126,15 +128,15 @@ fn record_line(
         written,
         listing: Listing {
             parser: empty,
-            offset: listing.offset + (44 + pushed.record.length as u64),
+            offset: offset + (44 + pushed.record.length as u64),
             open,
         },
     }
 }
 
 // No record is complete, so there is no line.
-fn no_line(listing: Listing, pushed: Pushed, at: usize) -> Listed
-    ensures { λ r. ⌜ r ≡ listed (pushed .refusal) (pushed .consumed) at (listingOf (pushed .parser) (listing .offset) (listing .«open»)) ⌝ }
+fn no_line(offset: u64, open: u64, pushed: Pushed, at: usize) -> Listed
+    ensures { λ r. ⌜ r ≡ listed (pushed .refusal) (pushed .consumed) at (listingOf (pushed .parser) offset «open») ⌝ }
 {
     let refusal = pushed.refusal;
     let parser = pushed.parser;
@@ -144,8 +146,8 @@ fn no_line(listing: Listing, pushed: Pushed, at: usize) -> Listed
         written: at,
         listing: Listing {
             parser,
-            offset: listing.offset,
-            open: listing.open,
+            offset,
+            open,
         },
     }
 }
@@ -159,50 +161,39 @@ fn step(listing: Listing, piece: &[u8], stage: &mut [u8], output: &mut [u8], at:
     if pushed.complete {
         let place = pushed.place;
         let bytes = payload(piece, stage, place, pushed.record.length);
-        return record_line(listing, pushed, bytes, output, at);
+        return record_line(listing.offset, listing.open, pushed, bytes, output, at);
     }
-    no_line(listing, pushed, at)
+    no_line(listing.offset, listing.open, pushed, at)
+}
+
+// One push more: `done` is what was done before it.
+fn turn(done: Listed, piece: &[u8], stage: &mut [u8], output: &mut [u8]) -> Listed
+    requires { ⌜ (soundListing (done .listing) ≡ true) × (65536 ≤ length (now stage)) × (done .written + 126 ≤ length (now output)) × (readOf (done .listing) + length (now piece) ≤ limit + done .taken) × (done .taken ≤ length (now piece)) × (length (now piece) ≤ limit) ⌝ }
+    ensures { λ r. ⌜ outcome r (now (stage .exit)) (now (output .exit)) ≡ further (done .taken) (stepOf (done .listing) (drop (done .taken) (now (piece .entry))) (now (stage .entry)) (now (output .entry)) (done .written)) ⌝ }
+{
+    let taken = done.taken;
+    let mut r = step(done.listing, &piece[taken..], stage, output, done.written);
+    r.taken = taken + r.taken;
+    r
 }
 
 // Record by record, while bytes are left, nothing is refused and the output has room for a line.
-fn list_records(start: Listing, piece: &[u8], stage: &mut [u8], output: &mut [u8]) -> Listed
-    requires { ⌜ (soundListing start ≡ true) × (65536 ≤ length (now stage)) × (126 ≤ length (now output)) × (readOf start + length (now piece) ≤ limit) ⌝ }
-    ensures { λ r. ⌜ outcome r (now (stage .exit)) (now (output .exit)) ≡ lines (length (now (piece .entry))) start (now (piece .entry)) (now (stage .entry)) (now (output .entry)) 0 0 ⌝ }
+fn list_records(start: Listed, piece: &[u8], stage: &mut [u8], output: &mut [u8]) -> Listed
+    requires { ⌜ (start ≡ listed none 0 0 (start .listing)) × (soundListing (start .listing) ≡ true) × (65536 ≤ length (now stage)) × (126 ≤ length (now output)) × (readOf (start .listing) + length (now piece) ≤ limit) ⌝ }
+    ensures { λ r. ⌜ outcome r (now (stage .exit)) (now (output .exit)) ≡ lines (length (now (piece .entry))) (start .listing) (now (piece .entry)) (now (stage .entry)) (now (output .entry)) 0 0 ⌝ }
 {
     let last = output.len() - LINE;
-    let mut listing = start;
-    let mut taken: usize = 0;
-    let mut written: usize = 0;
-    while taken < piece.len() {
-        if last < written {
-            return Listed {
-                refusal: Refusal::none(),
-                taken,
-                written,
-                listing,
-            };
+    let mut done = start;
+    while done.taken < piece.len() {
+        if last < done.written {
+            return done;
         }
-        let r = step(listing, &piece[taken..], stage, output, written);
-        let refusal = r.refusal;
-        let next = r.listing;
-        listing = next;
-        taken += r.taken;
-        written = r.written;
-        if refusal.number != 0 {
-            return Listed {
-                refusal,
-                taken,
-                written,
-                listing,
-            };
+        done = turn(done, piece, stage, output);
+        if done.refusal.number != 0 {
+            return done;
         }
     }
-    Listed {
-        refusal: Refusal::none(),
-        taken,
-        written,
-        listing,
-    }
+    done
 }
 
 // The line of names.
@@ -238,8 +229,7 @@ impl Listing {
     fn is_sound(self) -> bool
         ensures { λ r. ⌜ r ≡ soundListing self ⌝ }
     {
-        let parser = self.parser;
-        let buffered = parser.buffered();
+        let buffered = self.parser.buffered();
         if buffered.refusal.number != 0 {
             return false;
         }
@@ -256,8 +246,7 @@ impl Listing {
         requires { ⌜ soundListing self ≡ true ⌝ }
         ensures { λ r. ⌜ r ≡ min (limit - readOf self) size ⌝ }
     {
-        let parser = self.parser;
-        let buffered = parser.buffered();
+        let buffered = self.parser.buffered();
         least(size, LIMIT - (self.offset + buffered.count as u64))
     }
 
@@ -276,13 +265,11 @@ impl Listing {
         if output.len() < LINE {
             return stop(self, Refusal::new(22, 0, 0, 0));
         }
-        let parser = self.parser;
-        let error = parser.error;
-        if error.number != 0 {
-            return stop(self, error);
+        if self.parser.error.number != 0 {
+            return stop(self, self.parser.error);
         }
         let n = self.room(piece.len());
-        list_records(self, &piece[0..n], stage, output)
+        list_records(stop(self, Refusal::none()), &piece[0..n], stage, output)
     }
 
     // The last line.
@@ -301,13 +288,11 @@ impl Listing {
                 next: 0,
             };
         }
-        let parser = self.parser;
-        let error = parser.error;
-        let buffered = parser.buffered();
+        let buffered = self.parser.buffered();
         let next = put_ending(
             output,
             self.offset,
-            error.number as u64,
+            self.parser.error.number as u64,
             buffered.count as u64,
         );
         Written {

@@ -1,7 +1,7 @@
 // Lists the records of a capture: standard input to standard output (01, "The link listing").
-use listing::listing::LIMIT;
 use listing::listing::Listing;
 use listing::listing::names;
+use reach::LIMIT;
 ghost use mathlib.Core.Path.{_≡_};
 ghost use mathlib.Core.Bool.{true};
 ghost use Prim.Native.Nat.{_≤_, _<_};

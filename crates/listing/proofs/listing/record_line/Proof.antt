@@ -19,17 +19,17 @@ put-line-requires c κs = search needs
 none-requires : tie.Need-none-requires
 none-requires c κs = search needs
 
-add-t13 : tie.Need-add-t13
-add-t13 c = search needs
+add-t14 : tie.Need-add-t14
+add-t14 c = search needs
 
-add-t15 : tie.Need-add-t15
-add-t15 c = search needs
+add-t16 : tie.Need-add-t16
+add-t16 c = search needs
 
 same-length : tie.Need-same-length
 same-length c = search needs
 
 returns : tie.Need-returns
-returns c = record-line (c .before .before .before .before .before .before .before .before .before .before .before .args .listing) (c .before .before .before .before .before .before .before .before .before .before .before .args .pushed) _ _ (c .before .before .before .before .before .before .before .before .before .before .before .args .at) (c .before .before .before .before .before .before .before .before .code-of .result) (c .before .before .before .before .before .before .before .open-after .result) _ (c .before .before .before .before .before .before .before .before .before .before .before .pre .0) (c .before .before .before .before .before .before .before .before .code-of .ensures) (c .before .before .before .before .before .before .before .open-after .ensures) (c .before .none .ensures) (c .before .before .before .before .before .put-line .ensures)
+returns c = let a = c .before .before .before .before .before .before .before .before .before .before .args in record-line (a .offset) (a .before) (a .pushed) _ _ (a .at) (c .before .before .before .before .before .before .before .code-of .result) (c .before .before .before .before .before .before .open-after .result) _ (c .before .before .before .before .before .before .before .before .before .before .pre .0) (c .before .before .before .before .before .before .before .code-of .ensures) (c .before .before .before .before .before .before .open-after .ensures) (c .none .ensures) (c .before .before .before .before .put-line .ensures)
 
 pub record-line-spec : {M : Type 1} → statement M
 record-line-spec =
@@ -40,7 +40,7 @@ record-line-spec =
     cast-put-line
     put-line-requires
     none-requires
-    add-t13
-    add-t15
+    add-t14
+    add-t16
     same-length
     returns)

@@ -1,8 +1,10 @@
 -- `listing::listing::Listing::list` meets its contract. Each return is a case of its rule: `listings`, `list-lines` of proofs/Lines. The part of the piece that is read ends at the limit. Assumes nothing.
+use mathlib.Core.Path.{ap, _∙_}
 use native.Mathlib.Omega.{arith}
 use lib.ListN.{length-take}
+use Rattle.listing.specs.Steps.{readOf, soundListing}
 use Rattle.listing.proofs.Cases.{facts}
-use Rattle.listing.proofs.Lines.{is-sound, list-lines, listings}
+use Rattle.listing.proofs.Lines.{is-sound, first-listing, first-done, list-lines, listings}
 use borrow.Author.Needs.{needs}
 use Rattle.listing.proofs.listing.Listing.list.Statement.{statement}
 use Rattle.listing.proofs.listing.Listing.list.Tie as tie
@@ -44,7 +46,13 @@ returns-4 : tie.Need-returns-4
 returns-4 c = search listings
 
 room-requires : tie.Need-room-requires
-room-requires c κs = (is-sound (c .before .before .before .before .before .before .before .before .before .before .before .args .self) (c .before .before .before .before .before .before .before .before .before .before .before .args .piece .now) (c .before .before .before .before .before .before .before .before .before .before .before .args .stage .now) (c .before .before .before .before .before .before .before .before .before .before .before .args .output .now) (c .before .before .before .before .before .before .before .is-sound .result) (c .before .before .before .before .before .before .before .is-sound .ensures) (c .before .before .before .before .before .before .if1 .left))
+room-requires c κs = let a = c .before .before .before .before .before .before .before .before .before .args in is-sound (a .self) (a .piece .now) (a .stage .now) (a .output .now) (c .before .before .before .before .before .is-sound .result) (c .before .before .before .before .before .is-sound .ensures) (c .before .before .before .before .if1 .left)
+
+none-requires : tie.Need-none-requires
+none-requires c κs = search needs
+
+stop-requires-5 : tie.Need-stop-requires-5
+stop-requires-5 c κs = search needs
 
 sub-list-records : tie.Need-sub-list-records
 sub-list-records c = search needs
@@ -56,7 +64,7 @@ part-list-records-end : tie.Need-part-list-records-end
 part-list-records-end c = search needs
 
 list-records-requires : tie.Need-list-records-requires
-list-records-requires c κs = let s = (is-sound (c .before .before .before .before .before .before .before .before .before .before .before .before .before .before .before .args .self) (c .before .before .before .before .before .before .before .before .before .before .before .before .before .before .before .args .piece .now) (c .before .before .before .before .before .before .before .before .before .before .before .before .before .before .before .args .stage .now) (c .before .before .before .before .before .before .before .before .before .before .before .before .before .before .before .args .output .now) (c .before .before .before .before .before .before .before .before .before .before .before .is-sound .result) (c .before .before .before .before .before .before .before .before .before .before .before .is-sound .ensures) (c .before .before .before .before .before .before .before .before .before .before .if1 .left)) in (s, search needs, search needs, simp length-take (omega (arith, c .before .before .before .room .ensures, facts (c .before .before .before .before .before .before .before .before .before .before .before .before .before .before .before .args .self) s .read)))
+list-records-requires c κs = let a = c .before .before .before .before .before .before .before .before .before .before .before .before .before .before .before .args in let s = is-sound (a .self) (a .piece .now) (a .stage .now) (a .output .now) (c .before .before .before .before .before .before .before .before .before .before .before .is-sound .result) (c .before .before .before .before .before .before .before .before .before .before .before .is-sound .ensures) (c .before .before .before .before .before .before .before .before .before .before .if1 .left) in let d = first-listing (a .self) _ (c .before .before .before .stop5 .result) (c .before .before .before .stop5 .ensures) in (first-done (a .self) _ (c .before .before .before .stop5 .result) (c .before .before .before .before .none .ensures) (c .before .before .before .stop5 .ensures), ap soundListing d ∙ s, search needs, search needs, simp length-take (omega (arith, c .before .before .before .before .before .room .ensures, facts (a .self) s .read, ap readOf d)))
 
 same-length : tie.Need-same-length
 same-length c = search needs
@@ -65,7 +73,7 @@ same-length-2 : tie.Need-same-length-2
 same-length-2 c = search needs
 
 returns-5 : tie.Need-returns-5
-returns-5 c = list-lines (c .before .before .before .before .before .before .before .before .before .before .before .before .before .before .before .before .before .before .before .before .args .self) _ _ _ (c .before .before .before .before .before .before .before .before .before .before .before .before .before .before .before .before .is-sound .result) (c .before .before .before .before .before .before .before .before .before .before .before .before .before .before .before .before .is-sound .ensures) (c .before .before .before .before .before .before .before .before .before .before .before .before .before .before .before .if1 .left) (c .before .before .before .before .before .before .before .before .before .before .before .before .before .before .if2 .left) (c .before .before .before .before .before .before .before .before .before .before .before .before .before .if3 .left) (c .before .before .before .before .before .before .before .before .room .result) _ _ _ (c .before .before .before .before .before .before .before .before .before .if4 .left) (c .before .before .before .before .before .before .before .before .room .ensures) (c .before .before .before .before .list-records .ensures)
+returns-5 c = list-lines (c .before .before .before .before .before .before .before .before .before .before .before .before .before .before .before .before .before .before .before .before .args .self) _ _ _ (c .before .before .before .before .before .before .before .before .before .before .before .before .before .before .before .before .is-sound .result) (c .before .before .before .before .before .before .before .before .before .before .before .before .before .before .before .before .is-sound .ensures) (c .before .before .before .before .before .before .before .before .before .before .before .before .before .before .before .if1 .left) (c .before .before .before .before .before .before .before .before .before .before .before .before .before .before .if2 .left) (c .before .before .before .before .before .before .before .before .before .before .before .before .before .if3 .left) (c .before .before .before .before .before .before .before .before .before .before .room .result) (c .before .before .before .before .before .before .before .before .stop5 .result) _ _ _ (c .before .before .before .before .before .before .before .before .before .before .before .if4 .left) (c .before .before .before .before .before .before .before .before .before .before .room .ensures) (first-listing (c .before .before .before .before .before .before .before .before .before .before .before .before .before .before .before .before .before .before .before .before .args .self) _ (c .before .before .before .before .before .before .before .before .stop5 .result) (c .before .before .before .before .before .before .before .before .stop5 .ensures)) (c .before .before .before .before .list-records .ensures)
 
 pub list-spec : {M : Type 1} → statement M
 list-spec =
@@ -84,6 +92,8 @@ list-spec =
     stop-requires-4
     returns-4
     room-requires
+    none-requires
+    stop-requires-5
     sub-list-records
     part-list-records-start
     part-list-records-end

@@ -9,16 +9,16 @@ buffered-requires : tie.Need-buffered-requires
 buffered-requires c κs = search needs
 
 add-least : tie.Need-add-least
-add-least c = omega (arith, count-is (c .before .before .before .args .self) _ (c .before .buffered .ensures) (c .before .before .before .pre), facts (c .before .before .before .args .self) (c .before .before .before .pre) .read)
+add-least c = let s = c .before .before .args .self in omega (arith, count-is s _ (c .before .buffered .ensures) (c .before .before .pre), facts s (c .before .before .pre) .read)
 
 sub-least : tie.Need-sub-least
-sub-least c = omega (arith, count-is (c .before .before .before .args .self) _ (c .before .buffered .ensures) (c .before .before .before .pre), facts (c .before .before .before .args .self) (c .before .before .before .pre) .read)
+sub-least c = let s = c .before .before .args .self in omega (arith, count-is s _ (c .before .buffered .ensures) (c .before .before .pre), facts s (c .before .before .pre) .read)
 
 least-requires : tie.Need-least-requires
 least-requires c κs = search needs
 
 returns : tie.Need-returns
-returns c = omega (arith, count-is (c .before .before .before .before .args .self) _ (c .before .before .buffered .ensures) (c .before .before .before .before .pre), c .least .ensures)
+returns c = omega (arith, count-is (c .before .before .before .args .self) _ (c .before .before .buffered .ensures) (c .before .before .before .pre), c .least .ensures)
 
 pub room-spec : {M : Type 1} → statement M
 room-spec = tie.close (tie.spec buffered-requires add-least sub-least least-requires returns)
