@@ -144,7 +144,7 @@ module _ (offset o : ℕ) (a : Pushed) where
       λ j. line offset (ec j) (a .«record» .epoch .0) (a .«record» .sequence .0) (a .«record» .length) (q j)
       in (
         λ j. listed (ex j) (a .consumed) ((ap (λ (y : Placed). y .next) w ∙ ap (λ (y : List ℕ). at + length y) l) j)
-        (listingOf (a .parser) (offset + (44 + a .«record» .length)) (q j)),
+            (listingOf (a .parser) (offset + (44 + a .«record» .length)) (q j)),
         ap (λ (y : Placed). y .output) w ∙ ap (overlay d at) l,
       )
 

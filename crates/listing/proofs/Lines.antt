@@ -74,7 +74,7 @@ pub going-start : (d : Listed) (piece stage output : List ℕ) → d ≡ listed 
     → readOf (d .listing) + length piece ≤ limit → Going (d .listing) piece stage output (d .listing) stage output (d .taken) (d .written) × (d .refusal ≡ none)
 going-start d piece stage output e t l = (
   subst (λ (x : Listed). Going (d .listing) piece stage output (d .listing) stage output (x .taken) (x .written)) (sym e)
-  (going-first (d .listing) piece stage output t l),
+      (going-first (d .listing) piece stage output t l),
   ap (λ (x : Listed). x .refusal) e,
 )
 

@@ -1,6 +1,7 @@
 // Lists the records of a capture: standard input to standard output (01, "The link listing").
 use listing::listing::Listing;
 use listing::listing::names;
+use listing_list::list;
 use reach::LIMIT;
 ghost use mathlib.Core.Path.{_≡_};
 ghost use mathlib.Core.Bool.{true};
@@ -45,7 +46,7 @@ fn feed(start: Listing, piece: &[u8], stage: &mut [u8], output: &mut [u8]) -> Fe
     let mut listing = start;
     let mut taken: usize = 0;
     while taken < piece.len() {
-        let r = listing.list(&piece[taken..], stage, output);
+        let r = list(listing, &piece[taken..], stage, output);
         let next = r.listing;
         listing = next;
         taken += r.taken;

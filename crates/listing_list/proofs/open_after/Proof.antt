@@ -1,8 +1,8 @@
--- `listing::listing::open_after` meets its contract. Each return is a case of its rule, `opening` of proofs/Cases. Assumes nothing.
+-- `listing_list::open_after` meets its contract. Each return is a case of its rule, `opening` of the laws of `listing`. Assumes nothing.
 use Rattle.listing.proofs.Cases.{opening}
 use borrow.Author.Needs.{needs}
-use Rattle.listing.proofs.listing.open_after.Statement.{statement}
-use Rattle.listing.proofs.listing.open_after.Tie as tie
+use Rattle.listing_list.proofs.open_after.Statement.{statement}
+use Rattle.listing_list.proofs.open_after.Tie as tie
 
 returns : tie.Need-returns
 returns c = search opening

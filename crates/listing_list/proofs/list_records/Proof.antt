@@ -1,13 +1,13 @@
--- `listing::listing::list_records` meets its contract. The loop's invariant, `Going` of proofs/Lines: what is left to do is what was to be done at first, and nothing was refused. The measure is the bytes that are left, of which each turn takes one or more. Assumes nothing.
+-- `listing_list::list_records` meets its contract. The loop's invariant, `Going` of the laws of `listing`: what is left to do is what was to be done at first, and nothing was refused. The measure is the bytes that are left, of which each turn takes one or more. Assumes nothing.
 use Prim.Native.Nat.{_-_}
 use mathlib.Core.Path.{_≡_}
 use native.Mathlib.Omega.{arith}
 use lib.ListN.{length}
 use Rattle.wire.specs.Refusals.{none}
 use Rattle.listing.proofs.Lines.{Going, going-start, going-end, going-full, going-out, going-on, taken-within, taken-some}
 use borrow.Author.Needs.{needs}
-use Rattle.listing.proofs.listing.list_records.Statement.{statement}
-use Rattle.listing.proofs.listing.list_records.Tie as tie
+use Rattle.listing_list.proofs.list_records.Statement.{statement}
+use Rattle.listing_list.proofs.list_records.Tie as tie
 
 abbrev Inv-loop : tie.InvT-loop
 Inv-loop piece stage₀ output₀ last done₀ stage output done = Going (done₀ .listing) piece stage₀ output₀ (done .listing) stage output (done .taken) (done .written) × (done .refusal ≡ none)

@@ -1,8 +1,8 @@
--- `listing::listing::record_line` meets its contract. What is put is the record's line, and the answer is the state after it: `record-line` of proofs/Cases. Assumes nothing.
+-- `listing_list::record_line` meets its contract. What is put is the record's line, and the answer is the state after it: `record-line` of the laws of `listing`. Assumes nothing.
 use Rattle.listing.proofs.Cases.{record-line}
 use borrow.Author.Needs.{needs}
-use Rattle.listing.proofs.listing.record_line.Statement.{statement}
-use Rattle.listing.proofs.listing.record_line.Tie as tie
+use Rattle.listing_list.proofs.record_line.Statement.{statement}
+use Rattle.listing_list.proofs.record_line.Tie as tie
 
 code-of-requires : tie.Need-code-of-requires
 code-of-requires c κs = search needs

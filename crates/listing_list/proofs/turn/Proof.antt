@@ -1,9 +1,9 @@
--- `listing::listing::turn` meets its contract. It is one push on the rest of the piece, with the bytes taken before added: `turn-done` of proofs/Lines; the sum is within the piece, `turn-fits`. Assumes nothing.
+-- `listing_list::turn` meets its contract. It is one push on the rest of the piece, with the bytes taken before added: `turn-done` of the laws of `listing`; the sum is within the piece, `turn-fits`. Assumes nothing.
 use native.Mathlib.Omega.{arith}
 use Rattle.listing.proofs.Lines.{turn-done, turn-fits}
 use borrow.Author.Needs.{needs}
-use Rattle.listing.proofs.listing.turn.Statement.{statement}
-use Rattle.listing.proofs.listing.turn.Tie as tie
+use Rattle.listing_list.proofs.turn.Statement.{statement}
+use Rattle.listing_list.proofs.turn.Tie as tie
 
 sub-step : tie.Need-sub-step
 sub-step c = search needs

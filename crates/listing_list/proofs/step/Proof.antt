@@ -1,8 +1,8 @@
--- `listing::listing::step` meets its contract. Each return is a case of its rule: `step-line`, `step-none` of proofs/Cases; the sums fit by `step-fits`. Assumes nothing.
+-- `listing_list::step` meets its contract. Each return is a case of its rule: `step-line`, `step-none` of the laws of `listing`; the sums fit by `step-fits`. Assumes nothing.
 use Rattle.listing.proofs.Cases.{step-line, step-none, step-fits}
 use borrow.Author.Needs.{needs}
-use Rattle.listing.proofs.listing.step.Statement.{statement}
-use Rattle.listing.proofs.listing.step.Tie as tie
+use Rattle.listing_list.proofs.step.Statement.{statement}
+use Rattle.listing_list.proofs.step.Tie as tie
 
 push-requires : tie.Need-push-requires
 push-requires c κs = search needs
