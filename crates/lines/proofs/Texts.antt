@@ -9,7 +9,7 @@ use borrow.Author.Tests.{le-leb, lt-leb}
 use Rattle.wire.specs.Refusals.{pick}
 use Rattle.wire.specs.Bytes.{overlay, copied}
 use Rattle.wire.proofs.Overlays.{copied-fits}
-use Rattle.decimal.specs.Decimal.{number, Puts, Placed, placed, putNumber}
+use Rattle.decimal.specs.Decimal.{number, Puts, placed, putNumber}
 use Rattle.decimal.proofs.Puts.{puts-length, puts-then, number-puts, number-room}
 use Rattle.lines.specs.Lines.{names, line, ending, putText}
 

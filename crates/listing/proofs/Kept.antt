@@ -1,6 +1,6 @@
 -- A whole record of a length that its type has leaves an offset and open that add up (`keeps`): what they are made of (`Sum`) goes on by
 -- the record's bytes, and by what its type does to open. Assumes nothing.
-use Prim.Native.Nat.{ℕ, _+_, _-_, _*_, _≤_, _<_}
+use Prim.Native.Nat.{ℕ, _+_, _-_, _≤_, _<_}
 use mathlib.Core.Path.{_≡_, refl, subst}
 use mathlib.Core.Bool.{Bool, true, _||_}
 use mathlib.Core.List.{List}

@@ -1,6 +1,6 @@
 -- The listing of a capture (01, "The link listing"): what a whole input gives.
 use Prim.Native.Nat.{ℕ, zero, suc, _+_, _-_}
-use mathlib.Core.List.{List, [], _∷_, _++_}
+use mathlib.Core.List.{List, [], _++_}
 use lib.ListN.{length, take, drop}
 use lib.Dec.{eqb, ltb}
 use Rattle.wire.specs.Refusals.{pick, passes}

@@ -1,5 +1,4 @@
-// The listing's state by value, whether it is sound, and its first and last line: the names and the
-// end.
+// The listing's state by value, whether it is sound, the line of names and the last line.
 use lines::LINE;
 use lines::put_ending;
 use lines::put_names;

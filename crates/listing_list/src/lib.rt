@@ -1,4 +1,4 @@
-// Takes a capture a piece at a time, and writes the lines of the records that it completes.
+// The link listing (01) made a piece at a time: the lines of the records that a piece completes.
 use lines::LINE;
 use lines::put_line;
 use listing::listing::Listed;
@@ -75,7 +75,8 @@ fn code_of(record: Record) -> u8
     record_type.code()
 }
 
-// A record is complete: its line, and the state after it. Before it are `offset` bytes, and open.
+// A record is complete: its line, and the state after it. It stands at `offset`, and `before` is
+// open before it.
 fn record_line(
     offset: u64,
     before: u64,

@@ -1,4 +1,4 @@
--- `listing_list::open_after` meets its contract. Each return is a case of its rule, `opening` of the laws of `listing`. Assumes nothing.
+-- `listing_list::open_after` meets its contract. Each return is a case of its rule, `opening` of the proofs of `listing`. Assumes nothing.
 use Rattle.listing.proofs.Cases.{opening}
 use borrow.Author.Needs.{needs}
 use Rattle.listing_list.proofs.open_after.Statement.{statement}

@@ -1,4 +1,4 @@
--- `listing_list::record_line` meets its contract. What is put is the record's line, and the answer is the state after it: `record-line` of the laws of `listing`. Assumes nothing.
+-- `listing_list::record_line` meets its contract. What is put is the record's line, and the answer is the state after it: `record-line` of the proofs of `listing`. Assumes nothing.
 use Rattle.listing.proofs.Cases.{record-line}
 use borrow.Author.Needs.{needs}
 use Rattle.listing_list.proofs.record_line.Statement.{statement}
