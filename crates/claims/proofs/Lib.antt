@@ -28,4 +28,3 @@ pub mod HostWrites
 pub mod HostRuns
 pub mod HostNever
 pub mod Demand3
-pub mod Examples

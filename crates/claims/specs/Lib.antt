@@ -4,4 +4,3 @@ pub mod GuestHistory
 pub mod GuestClaims
 pub mod HostCalls
 pub mod Demand3
-pub mod Examples

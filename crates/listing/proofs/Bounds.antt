@@ -9,7 +9,7 @@ use lib.Dec.{leb, ltb}
 use Rattle.wire.specs.Refusals.{refusal, first, passes}
 use Rattle.wire.specs.declared.refusal.Refusal.{Refusal}
 use Rattle.wire.proofs.Rows.{picked}
-use Rattle.listing.specs.Listing.{limit}
+use Rattle.reach.specs.Reach.{limit}
 use Rattle.listing.specs.Steps.{readOf, soundListing, Outcome, stepOf, lines, listRows, readable, listOf}
 use Rattle.listing.specs.declared.listing.Listing.{Listing}
 use Rattle.listing.proofs.Cases.{facts, Stepped, stepped}

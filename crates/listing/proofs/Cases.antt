@@ -1,13 +1,12 @@
 -- The cases of the listing's rules, a law for each `return` of the code: what was tested there, and what is answered. Assumes nothing.
 use Prim.Native.Nat.{ℕ, _+_, _-_, _^_, _≤_, _<_}
-use mathlib.Core.Path.{_≡_, sym, ap, _∙_}
-use mathlib.Core.Bool.{Bool, true, false, not, _&&_}
+use mathlib.Core.Path.{_≡_, refl, sym, ap, _∙_}
+use mathlib.Core.Bool.{Bool, true, false, _&&_}
 use mathlib.Core.List.{List}
 use native.Mathlib.Omega.{arith}
-use native.Mathlib.Decide.{decLe}
 use lib.ListN.{length}
 use lib.Dec.{leb}
-use borrow.Author.Tests.{le-leb, lt-leb, leb-true, eq-eqb, ne-eqb, not-true, not-false}
+use borrow.Author.Tests.{le-leb, leb-true, eq-eqb, ne-eqb}
 use Rattle.wire.specs.Bytes.{overlay}
 use Rattle.wire.specs.Refusals.{pick, refusal, none, passes}
 use Rattle.protocol.specs.Outer.{valueOf}
@@ -18,13 +17,16 @@ use Rattle.parser.specs.Push as parser
 use Rattle.parser.specs.Push.{soundParser, pushOf, push, heldIn, bufferedOf, counted, payloadAt}
 use Rattle.parser.specs.declared.parser.Count.{Count}
 use Rattle.parser.specs.declared.parser.Pushed.{Pushed}
-use Rattle.decimal.specs.Decimal.{Puts}
-use Rattle.listing.specs.Listing.{line, openAfter, limit}
-use Rattle.listing.specs.Reach.{addsUp, refusedBytes}
+use Rattle.decimal.specs.Decimal.{Placed, placed}
+use Rattle.lines.specs.Lines.{line, putText}
+use Rattle.lines.proofs.Texts.{text-puts}
+use Rattle.reach.specs.Reach.{limit, addsUp, refusedBytes, reached}
+use Rattle.reach.proofs.Sums.{adds-low}
+use Rattle.listing.specs.Listing.{openAfter}
 use Rattle.listing.specs.Steps.{listingOf, readOf, soundListing, listed, Outcome, outcome, opens, lineOf, recordListed, pushed, stepOf}
 use Rattle.listing.specs.declared.listing.Listing.{Listing}
 use Rattle.listing.specs.declared.listing.Listed.{Listed}
-use Rattle.listing.proofs.Sums.{keeps, adds-low}
+use Rattle.listing.proofs.Kept.{keeps}
 use Rattle.listing.proofs.Counts.{Came, came}
 
 -- ---- soundness
@@ -52,17 +54,11 @@ module _ (s : Listing) (c : Count) (e : c ≡ counted (s .parser) (bufferedOf (s
   unfolding soundListing
   sound-not h = sym (ap (λ (t : Bool). t && after) (counted-not h))
 
-  module _ (h : c .refusal .number ≡ 0) (k : ℕ) (f : k ≡ refusedBytes (s .parser .error .number)) (b : Bool) (q : b ≡ leb (s .offset + c .count + k) limit) where
-    limit-told : b ≡ leb (readOf s + refusedBytes (s .parser .error .number)) limit
-    limit-told = q ∙ (λ j. leb (s .offset + counted-sound h .1 j + f j) limit)
-
-    pub sound-far : not b ≡ true → false ≡ soundListing s
-    unfolding soundListing
-    sound-far n = sym (λ j. counted-sound h .0 j && ((sym limit-told ∙ not-true b n) j && addsUp (s .offset) (s .«open»)))
-
-    pub sound-sums : (r : Bool) → not b ≡ false → r ≡ addsUp (s .offset) (s .«open») → r ≡ soundListing s
-    unfolding soundListing
-    sound-sums r n e = e ∙ sym (λ j. counted-sound h .0 j && ((sym limit-told ∙ not-false b n) j && addsUp (s .offset) (s .«open»)))
+  pub sound-reached : c .refusal .number ≡ 0 → (r : Bool) → r ≡ reached (s .offset) (s .«open») (c .count) (s .parser .error .number) → r ≡ soundListing s
+  unfolding soundListing
+  sound-reached h r q =
+      let k = counted-sound h in
+      q ∙ sym (λ j. k .0 j && reached (s .offset) (s .«open») (sym (k .1) j) (s .parser .error .number))
 
   -- of a sound listing the parser is, so that its count is the bytes that it holds
   pub count-is : soundListing s ≡ true → c .count ≡ bufferedOf (s .parser)
@@ -72,29 +68,7 @@ module _ (s : Listing) (c : Count) (e : c ≡ counted (s .parser) (bufferedOf (s
       (e ∙ ap (λ (b : Bool). pick b (record { refusal = none; count = bufferedOf (s .parser) }) (record { refusal = refusal 23 0 0 0; count = 0 }))
       (and-left (soundParser (s .parser)) after t))
 
-pub ruleset soundness = (sound-not, sound-far, sound-sums)
-
--- ---- the limit
-module _ (a b c : ℕ) where
-  pub limit-first : limit < a → false ≡ leb (a + b + c) limit
-  limit-first l = sym (lt-leb (a + b + c) limit (omega arith))
-
-  module _ (h : a ≤ limit) where
-    pub limit-held : limit - a < b → false ≡ leb (a + b + c) limit
-    limit-held l = sym (lt-leb (a + b + c) limit (omega arith))
-
-    pub limit-rest : b ≤ limit - a → leb c (limit - a - b) ≡ leb (a + b + c) limit
-    limit-rest l = go (decLe c (limit - a - b))
-      where
-        go : Dec (c ≤ limit - a - b) → leb c (limit - a - b) ≡ leb (a + b + c) limit
-        go (yes z) = le-leb c (limit - a - b) z ∙ sym (le-leb (a + b + c) limit (omega arith))
-        go (no z) = lt-leb c (limit - a - b) (omega arith) ∙ sym (lt-leb (a + b + c) limit (omega arith))
-
-  -- within the limit, so is the first
-  pub limit-low : (t : Bool) → t ≡ leb (a + b + c) limit → not t ≡ false → a ≤ limit
-  limit-low t e n = omega (arith, leb-true (a + b + c) limit (sym e ∙ not-false t n))
-
-pub ruleset limits = (limit-first, limit-held, limit-rest)
+pub ruleset soundness = (sound-not, sound-reached)
 
 pub record Facts (s : Listing) : Type 0 where
   pub parser : soundParser (s .parser) ≡ true
@@ -151,27 +125,34 @@ module _ (o code size : ℕ) (payload : List ℕ) where
 pub ruleset opening = (opens-reset, opens-data, opens-credit, opens-other)
 
 -- ---- a record's line
-pub record-line : (s : Listing) (a : Pushed) (payload : List ℕ) {o e : List ℕ} (at code p : ℕ) {written : ℕ} (x : Refusal)
-    → code ≡ codeOf (a .«record» .«record_type») → p ≡ openAfter (s .«open») code (a .«record» .length) payload → x ≡ none
-    → Puts o at (line (s .offset) code (a .«record» .epoch .0) (a .«record» .sequence .0) (a .«record» .length) p) written e
-    → (listed x (a .consumed) written (listingOf (a .parser) (s .offset + (44 + a .«record» .length)) p) ≡ recordListed s a payload at)
-    × (e ≡ overlay o at (lineOf s (a .«record») payload))
-unfolding recordListed lineOf
-record-line s a payload {o} {e} at code p {written} x ec ep ex w =
-    let q : p ≡ opens s (a .«record») payload = ep ∙ ap (λ (k : ℕ). openAfter (s .«open») k (a .«record» .length) payload) ec in
-    let l : line (s .offset) code (a .«record» .epoch .0) (a .«record» .sequence .0) (a .«record» .length) p ≡ lineOf s (a .«record») payload =
-    λ j. line (s .offset) (ec j) (a .«record» .epoch .0) (a .«record» .sequence .0) (a .«record» .length) (q j)
-    in (
-      λ j. listed (ex j) (a .consumed) ((w .next ∙ ap (λ (t : List ℕ). at + length t) l) j) (listingOf (a .parser) (s .offset + (44 + a .«record» .length)) (q j)),
-      w .bytes ∙ ap (overlay o at) l,
-    )
+module _ (offset o : ℕ) (a : Pushed) where
+  abbrev from : Listing
+  from = listingOf (a .parser) offset o
+
+  pub record-line : (payload d : List ℕ) {e : List ℕ} (at code p : ℕ) {written : ℕ} (x : Refusal) → at + 126 ≤ length d
+      → code ≡ codeOf (a .«record» .«record_type») → p ≡ openAfter o code (a .«record» .length) payload → x ≡ none
+      → placed written e ≡ putText d at (line offset code (a .«record» .epoch .0) (a .«record» .sequence .0) (a .«record» .length) p)
+      → (listed x (a .consumed) written (listingOf (a .parser) (offset + (44 + a .«record» .length)) p) ≡ recordListed from a payload at)
+      × (e ≡ overlay d at (lineOf from (a .«record») payload))
+  unfolding recordListed lineOf
+  record-line payload d {e} at code p {written} x room ec ep ex h =
+      let text : List ℕ = line offset code (a .«record» .epoch .0) (a .«record» .sequence .0) (a .«record» .length) p in
+      let w : placed written e ≡ placed (at + length text) (overlay d at text) = text-puts d at text written e room h in
+      let q : p ≡ opens from (a .«record») payload = ep ∙ ap (λ (k : ℕ). openAfter o k (a .«record» .length) payload) ec in
+      let l : text ≡ lineOf from (a .«record») payload =
+      λ j. line offset (ec j) (a .«record» .epoch .0) (a .«record» .sequence .0) (a .«record» .length) (q j)
+      in (
+        λ j. listed (ex j) (a .consumed) ((ap (λ (y : Placed). y .next) w ∙ ap (λ (y : List ℕ). at + length y) l) j)
+            (listingOf (a .parser) (offset + (44 + a .«record» .length)) (q j)),
+        ap (λ (y : Placed). y .output) w ∙ ap (overlay d at) l,
+      )
 
 -- ---- one push
 module _ (s : Listing) (piece stage output : List ℕ) (at : ℕ) (a : Pushed) (after : List ℕ) (e : parser.outcome a after ≡ pushOf (s .parser) piece stage) where
   pub step-line : (payload o2 : List ℕ) (r : Listed) → a .complete ≡ true → payload ≡ payloadAt (a .place) (a .«record» .length) piece after
-      → (r ≡ recordListed s a payload at) × (o2 ≡ overlay output at (lineOf s (a .«record») payload))
+      → (r ≡ recordListed (from (s .offset) (s .«open») a) a payload at) × (o2 ≡ overlay output at (lineOf (from (s .offset) (s .«open») a) (a .«record») payload))
       → outcome r after o2 ≡ stepOf s piece stage output at
-  unfolding pushed
+  unfolding pushed recordListed lineOf
   step-line payload o2 r t ep w =
       (λ j. outcome ((w .0 ∙ ap (λ (y : List ℕ). recordListed s a y at) ep) j) after ((w .1 ∙ ap (λ (y : List ℕ). overlay output at (lineOf s (a .«record») y)) ep) j))
       ∙ sym
@@ -180,10 +161,12 @@ module _ (s : Listing) (piece stage output : List ℕ) (at : ℕ) (a : Pushed) (
       (outcome (listed (a .refusal) (a .consumed) at (listingOf (a .parser) (s .offset) (s .«open»))) after output)) t)
       ∙ ap (pushed s piece output at) e
 
-  pub step-none : a .complete ≡ false → outcome (listed (a .refusal) (a .consumed) at (listingOf (a .parser) (s .offset) (s .«open»))) after output ≡ stepOf s piece stage output at
+  pub step-none : (r : Listed) → a .complete ≡ false → r ≡ listed (a .refusal) (a .consumed) at (listingOf (a .parser) (s .offset) (s .«open»))
+      → outcome r after output ≡ stepOf s piece stage output at
   unfolding pushed
-  step-none t =
-      sym
+  step-none r t w =
+      ap (λ (x : Listed). outcome x after output) w
+      ∙ sym
       (ap (λ (b : Bool). pick b
       (outcome (recordListed s a (payloadAt (a .place) (a .«record» .length) piece after) at) after (overlay output at (lineOf s (a .«record») (payloadAt (a .place) (a .«record» .length) piece after))))
       (outcome (listed (a .refusal) (a .consumed) at (listingOf (a .parser) (s .offset) (s .«open»))) after output)) t)
@@ -205,6 +188,7 @@ module _ (s : Listing) (piece stage output : List ℕ) (at : ℕ) (a : Pushed) (
 pub record Stepped (s : Listing) (n : ℕ) (r : Listed) : Type 0 where
   pub within : r .taken ≤ n
   pub some : passes (r .refusal) ≡ true → 0 < n → 0 < r .taken
+  pub nothing : passes (r .refusal) ≡ true → r .refusal ≡ none
   pub sound : soundListing (r .listing) ≡ true
   pub read : readOf (r .listing) ≤ readOf s + r .taken
 
@@ -230,6 +214,7 @@ module _ (s : Listing) (piece stage output : List ℕ) (at : ℕ) (t : soundList
       record {
         within = b .within;
         some = λ _. b .some (b .clear c);
+        nothing = λ _. refl;
         sound = from-facts _ (b .sound) (keeps (s .offset) (s .«open») (codeOf (a .«record» .«record_type»)) (a .«record» .length) y (b .sized c) (f .sums)) (omega (arith, b .within));
         read = omega arith;
       })
@@ -238,6 +223,7 @@ module _ (s : Listing) (piece stage output : List ℕ) (at : ℕ) (t : soundList
       record {
         within = b .within;
         some = b .some;
+        nothing = b .nothing;
         sound = from-facts _ (b .sound) (f .sums)
             (omega (arith, b .below (limit - s .offset) c (omega (arith, f .all)) (omega arith), f .read));
         read = omega arith;

@@ -10,7 +10,7 @@ use lib.ListN.{length, take, drop, length-drop}
 use lib.Dec.{eqb, ltb, lit≤}
 use borrow.Author.Tests.{ltb-true, ltb-false, eqb-true, le-leb, ne-eqb}
 use Rattle.wire.specs.Bytes.{overlay}
-use Rattle.wire.specs.Refusals.{pick, first, passes}
+use Rattle.wire.specs.Refusals.{pick, none, first, passes}
 use Rattle.wire.specs.Header.{typeOf, lengthOf}
 use Rattle.wire.specs.declared.refusal.Refusal.{Refusal}
 use Rattle.wire.proofs.Rows.{passed, pass-all, picked, and-left, and-right}
@@ -24,14 +24,15 @@ use Rattle.parser.specs.declared.parser.Place.the-variants.{Piece, Stage}
 use Rattle.parser.specs.declared.parser.Pushed.{Pushed}
 use Rattle.parser.proofs.Parts.{overlay-nothing}
 use Rattle.parser.proofs.Cases.{type-code}
-use Rattle.listing.specs.Reach.{refusedBytes}
-use Rattle.listing.proofs.Sums.{refused-header, refused-all}
+use Rattle.reach.specs.Reach.{refusedBytes}
+use Rattle.reach.proofs.Sums.{refused-header, refused-all}
 
 -- a push of a parser that holds b bytes, or read w of a refused record, lent a piece of n
 pub record Came (b w n : ℕ) (a : Pushed) : Type 0 where
   pub within : a .consumed ≤ n
   pub sound : soundParser (a .parser) ≡ true
   pub some : passes (a .refusal) ≡ true → 0 < n → 0 < a .consumed
+  pub nothing : passes (a .refusal) ≡ true → a .refusal ≡ none
   pub whole : a .complete ≡ true → b + a .consumed ≡ 44 + a .«record» .length
   pub clear : a .complete ≡ true → passes (a .refusal) ≡ true
   pub sized : a .complete ≡ true → lengthOk (codeOf (a .«record» .«record_type»)) (a .«record» .length) ≡ true
@@ -95,6 +96,7 @@ failed-came b w n h r f l g =
       within = omega arith;
       sound = simp (f, le-leb (r .number) 9 l);
       some = λ t _. clash (sym t ∙ f);
+      nothing = λ t. clash (sym t ∙ f);
       whole = λ t. clash (sym t);
       clear = λ t. clash (sym t);
       sized = λ t. clash (sym t);
@@ -127,6 +129,7 @@ module _ (b w : ℕ) (h piece : List ℕ) (k n : ℕ) (all : b + n ≡ 44 + k) (
         within = omega arith;
         sound = refl;
         some = λ _ _. go (decLt 0 n);
+        nothing = λ _. refl;
         whole = λ _. omega arith;
         clear = λ _. refl;
         sized = λ _. length-told;
@@ -153,6 +156,7 @@ module _ (b w : ℕ) (h piece : List ℕ) (k n : ℕ) (all : b + n ≡ 44 + k) (
         within = omega arith;
         sound = simp (ok, t);
         some = λ _ z. omega arith;
+        nothing = λ _. refl;
         whole = λ t. clash (sym t);
         clear = λ t. clash (sym t);
         sized = λ t. clash (sym t);
@@ -188,6 +192,7 @@ module _ (w : ℕ) (head : List ℕ) (hl k : ℕ) (held piece : List ℕ) where
         within = omega arith;
         sound = simp (ne-eqb (hl + n') 44 (λ e. omega arith), t);
         some = λ _ g. omega arith;
+        nothing = λ _. refl;
         whole = λ t. clash (sym t);
         clear = λ t. clash (sym t);
         sized = λ t. clash (sym t);
@@ -226,6 +231,7 @@ came p size held piece s =
       within = omega arith;
       sound = s;
       some = λ t _. clash (sym t ∙ f);
+      nothing = λ t. clash (sym t ∙ f);
       whole = λ t. clash (sym t);
       clear = λ t. clash (sym t);
       sized = λ t. clash (sym t);

@@ -1,5 +1,4 @@
-pub mod Texts
-pub mod Sums
+pub mod Kept
 pub mod Counts
 pub mod Cases
 pub mod Lines

@@ -15,9 +15,11 @@ use Rattle.wire.specs.declared.refusal.Refusal.{Refusal}
 use Rattle.wire.proofs.Rows.{pass-all, row-stops, row-passes}
 use Rattle.parser.specs.Push.{bufferedOf}
 use Rattle.parser.proofs.Parts.{part-end, take-min}
-use Rattle.decimal.specs.Decimal.{Puts}
-use Rattle.listing.specs.Listing.{names, ending, limit}
-use Rattle.listing.specs.Steps.{readOf, soundListing, listed, Outcome, outcome, stepOf, lines, soundRow, roomRow, listRows, readable, listOf, namesOf, endLine, endOf}
+use Rattle.decimal.specs.Decimal.{placed}
+use Rattle.lines.specs.Lines.{names, ending, putText}
+use Rattle.lines.proofs.Texts.{text-puts}
+use Rattle.reach.specs.Reach.{limit}
+use Rattle.listing.specs.Steps.{readOf, soundListing, listed, Outcome, outcome, stepOf, further, lines, soundRow, roomRow, listRows, readable, listOf, namesOf, endLine, endOf}
 use Rattle.listing.specs.declared.listing.Listing.{Listing}
 use Rattle.listing.specs.declared.listing.Listed.{Listed}
 use Rattle.listing.proofs.Cases.{Stepped, stepped}
@@ -64,9 +66,17 @@ pub record Going (s₀ : Listing) (piece stage₀ output₀ : List ℕ) (s : Lis
   pub stage-size : length stage ≡ length stage₀
   pub output-size : length output ≡ length output₀
 
-pub going-first : (s : Listing) (piece stage output : List ℕ) → soundListing s ≡ true → readOf s + length piece ≤ limit → Going s piece stage output s stage output 0 0
+going-first : (s : Listing) (piece stage output : List ℕ) → soundListing s ≡ true → readOf s + length piece ≤ limit → Going s piece stage output s stage output 0 0
 going-first s piece stage output t l =
     record { fuel = length piece; enough = omega arith; within = omega arith; same = refl; sound = t; read = omega arith; stage-size = refl; output-size = refl }
+
+pub going-start : (d : Listed) (piece stage output : List ℕ) → d ≡ listed none 0 0 (d .listing) → soundListing (d .listing) ≡ true
+    → readOf (d .listing) + length piece ≤ limit → Going (d .listing) piece stage output (d .listing) stage output (d .taken) (d .written) × (d .refusal ≡ none)
+going-start d piece stage output e t l = (
+  subst (λ (x : Listed). Going (d .listing) piece stage output (d .listing) stage output (x .taken) (x .written)) (sym e)
+      (going-first (d .listing) piece stage output t l),
+  ap (λ (x : Listed). x .refusal) e,
+)
 
 module _ {s₀ : Listing} {piece stage₀ output₀ : List ℕ} {s : Listing} {stage output : List ℕ} {taken at : ℕ} (g : Going s₀ piece stage₀ output₀ s stage output taken at) where
   pub going-end : (x : Refusal) → x ≡ none → length piece ≤ taken → outcome (listed x taken at s) stage output ≡ lines (length piece) s₀ piece stage₀ output₀ 0 0
@@ -78,46 +88,52 @@ module _ {s₀ : Listing} {piece stage₀ output₀ : List ℕ} {s : Listing} {s
       ap (λ (y : Refusal). outcome (listed y taken at s) stage output) e ∙ sym (lines-full s piece stage output taken at (g .fuel) h (omega (arith, g .output-size))) ∙ g .same
 
   module _ (r : Listed) (after o2 : List ℕ) (h : taken < length piece) (l : at + 126 ≤ length output)
-      (e : outcome r after o2 ≡ stepOf s (take (length piece - taken) (drop taken piece)) stage output at) where
-    told : outcome r after o2 ≡ stepOf s (drop taken piece) stage output at
-    told = e ∙ ap (λ (x : List ℕ). stepOf s x stage output at) (part-end taken piece)
-
+      (e : outcome r after o2 ≡ further taken (stepOf s (drop taken piece) stage output at)) where
     rest-length : length (drop taken piece) ≡ length piece - taken
     rest-length = length-drop taken piece
 
-    pub went : Stepped s (length (drop taken piece)) r
-    went =
-        let q = rest-length in
-        subst (λ (x : Outcome). Stepped s (length (drop taken piece)) (x .listed)) (sym told) (stepped s (drop taken piece) stage output at (g .sound) (omega (arith, g .read, g .within)))
+    went : Stepped s (length (drop taken piece)) (stepOf s (drop taken piece) stage output at .listed)
+    went = let q = rest-length in stepped s (drop taken piece) stage output at (g .sound) (omega (arith, g .read, g .within))
 
-    pub taken-within : taken + r .taken ≤ length piece
-    taken-within = let q = rest-length in omega (arith, went .within, g .within)
+    -- what the answer has of the push
+    same-refusal : r .refusal ≡ stepOf s (drop taken piece) stage output at .listed .refusal
+    same-refusal = ap (λ (x : Outcome). x .listed .refusal) e
 
-    pub taken-some : r .refusal .number ≡ 0 → 0 < r .taken
-    taken-some z = let q = rest-length in went .some (eq-eqb (r .refusal .number) 0 z) (omega arith)
+    same-taken : r .taken ≡ taken + stepOf s (drop taken piece) stage output at .listed .taken
+    same-taken = ap (λ (x : Outcome). x .listed .taken) e
+
+    same-listing : r .listing ≡ stepOf s (drop taken piece) stage output at .listed .listing
+    same-listing = ap (λ (x : Outcome). x .listed .listing) e
+
+    went-on : r .refusal .number ≡ 0 → passes (stepOf s (drop taken piece) stage output at .listed .refusal) ≡ true
+    went-on z = ap (λ (x : Refusal). passes x) (sym same-refusal) ∙ eq-eqb (r .refusal .number) 0 z
+
+    pub taken-within : r .taken ≤ length piece
+    taken-within = let q = rest-length in omega (arith, went .within, g .within, same-taken)
+
+    pub taken-some : r .refusal .number ≡ 0 → taken < r .taken
+    taken-some z = let q = rest-length in omega (arith, went .some (went-on z) (omega arith), same-taken)
 
     turn : (n : ℕ) (b : Bool) → passes (r .refusal) ≡ b → lines (suc n) s piece stage output taken at
-        ≡ pick b (lines n (r .listing) piece after o2 (taken + r .taken) (r .written)) (outcome (listed (r .refusal) (taken + r .taken) (r .written) (r .listing)) after o2)
+        ≡ pick b (lines n (r .listing) piece after o2 (r .taken) (r .written)) (outcome r after o2)
     turn n b q =
-        lines-step s piece stage output taken at n h l b (ap (λ (x : Outcome). passes (x .listed .refusal)) (sym told) ∙ q)
-        ∙ (λ j. pick b
-        (lines n (sym told j .listed .listing) piece (sym told j .stage) (sym told j .output) (taken + sym told j .listed .taken) (sym told j .listed .written))
-        (outcome (listed (sym told j .listed .refusal) (taken + sym told j .listed .taken) (sym told j .listed .written) (sym told j .listed .listing)) (sym told j .stage) (sym told j .output)))
+        lines-step s piece stage output taken at n h l b (ap (λ (x : Refusal). passes x) (sym same-refusal) ∙ q)
+        ∙ (λ j. pick b (lines n (sym e j .listed .listing) piece (sym e j .stage) (sym e j .output) (sym e j .listed .taken) (sym e j .listed .written)) (sym e j))
 
-    pub going-out : (r .refusal .number ≡ 0 → ⊥) → outcome (listed (r .refusal) (taken + r .taken) (r .written) (r .listing)) after o2 ≡ lines (length piece) s₀ piece stage₀ output₀ 0 0
+    pub going-out : (r .refusal .number ≡ 0 → ⊥) → outcome r after o2 ≡ lines (length piece) s₀ piece stage₀ output₀ 0 0
     going-out z = go (g .fuel) (g .enough) (g .same)
       where
         go : (n : ℕ) → length piece ≤ taken + n → lines n s piece stage output taken at ≡ lines (length piece) s₀ piece stage₀ output₀ 0 0
-            → outcome (listed (r .refusal) (taken + r .taken) (r .written) (r .listing)) after o2 ≡ lines (length piece) s₀ piece stage₀ output₀ 0 0
+            → outcome r after o2 ≡ lines (length piece) s₀ piece stage₀ output₀ 0 0
         go zero k w = absurd (omega arith)
         go (suc n) k w = sym (turn n false (ne-eqb (r .refusal .number) 0 z)) ∙ w
 
     pub going-on : r .refusal .number ≡ 0 → length after ≡ length stage → length o2 ≡ length output
-        → Going s₀ piece stage₀ output₀ (r .listing) after o2 (taken + r .taken) (r .written)
-    going-on z ls lo = go (g .fuel) (g .enough) (g .same)
+        → Going s₀ piece stage₀ output₀ (r .listing) after o2 (r .taken) (r .written) × (r .refusal ≡ none)
+    going-on z ls lo = (go (g .fuel) (g .enough) (g .same), same-refusal ∙ went .nothing (went-on z))
       where
         go : (n : ℕ) → length piece ≤ taken + n → lines n s piece stage output taken at ≡ lines (length piece) s₀ piece stage₀ output₀ 0 0
-            → Going s₀ piece stage₀ output₀ (r .listing) after o2 (taken + r .taken) (r .written)
+            → Going s₀ piece stage₀ output₀ (r .listing) after o2 (r .taken) (r .written)
         go zero k w = absurd (omega arith)
         go (suc n) k w =
             record {
@@ -125,13 +141,39 @@ module _ {s₀ : Listing} {piece stage₀ output₀ : List ℕ} {s : Listing} {s
               enough = omega (arith, taken-some z);
               within = taken-within;
               same = sym (turn n true (eq-eqb (r .refusal .number) 0 z)) ∙ w;
-              sound = went .sound;
-              read = omega (arith, went .read, g .read);
+              sound = ap soundListing same-listing ∙ went .sound;
+              read = omega (arith, ap readOf same-listing, went .read, g .read, same-taken);
               stage-size = ls ∙ g .stage-size;
               output-size = lo ∙ g .output-size;
             }
 
+-- ---- one push more
+pub turn-done : (d : Listed) (piece stage output : List ℕ) (r : Listed) (after o2 : List ℕ)
+    → outcome r after o2 ≡ stepOf (d .listing) (take (length piece - d .taken) (drop (d .taken) piece)) stage output (d .written)
+    → outcome (listed (r .refusal) (d .taken + r .taken) (r .written) (r .listing)) after o2
+    ≡ further (d .taken) (stepOf (d .listing) (drop (d .taken) piece) stage output (d .written))
+turn-done d piece stage output r after o2 e =
+    ap (further (d .taken)) (e ∙ ap (λ (x : List ℕ). stepOf (d .listing) x stage output (d .written)) (part-end (d .taken) piece))
+
+pub turn-fits : (d : Listed) (piece stage output : List ℕ) (r : Listed) (after o2 : List ℕ) → soundListing (d .listing) ≡ true
+    → readOf (d .listing) + length piece ≤ limit + d .taken → d .taken ≤ length piece
+    → outcome r after o2 ≡ stepOf (d .listing) (take (length piece - d .taken) (drop (d .taken) piece)) stage output (d .written)
+    → d .taken + r .taken ≤ length piece
+turn-fits d piece stage output r after o2 t l w e =
+    let q : length (drop (d .taken) piece) ≡ length piece - d .taken = length-drop (d .taken) piece in
+    let f = turn-done d piece stage output r after o2 e in
+    let k : d .taken + r .taken ≡ d .taken + stepOf (d .listing) (drop (d .taken) piece) stage output (d .written) .listed .taken =
+    ap (λ (x : Outcome). x .listed .taken) f
+    in omega (arith, k, stepped (d .listing) (drop (d .taken) piece) stage output (d .written) t (omega arith) .within)
+
 -- ---- the ways out of `list`
+-- with nothing done yet
+pub first-listing : (s : Listing) (x : Refusal) (d : Listed) → d ≡ listed x 0 0 s → d .listing ≡ s
+first-listing s x d e = ap (λ (y : Listed). y .listing) e
+
+pub first-done : (s : Listing) (x : Refusal) (d : Listed) → x ≡ none → d ≡ listed x 0 0 s → d ≡ listed none 0 0 (d .listing)
+first-done s x d q e = e ∙ (λ j. listed (q j) 0 0 (sym (first-listing s x d e) j))
+
 module _ (s : Listing) (piece stage output : List ℕ) (b : Bool) (eb : b ≡ soundListing s) where
   list-stops : (x : Refusal) (r : Listed) → x ≡ first (listRows s stage output) → (x .number ≡ 0 → ⊥) → r ≡ listed x 0 0 s → outcome r stage output ≡ listOf s piece stage output
   unfolding listOf
@@ -167,15 +209,15 @@ module _ (s : Listing) (piece stage output : List ℕ) (b : Bool) (eb : b ≡ so
             (row-passes _ _ _ _ is-sound (row-passes _ _ _ _ (le-leb 65536 (length stage) hs) (row-passes _ _ _ _ (le-leb 126 (length output) ho)
             (row-stops _ _ _ _ (ne-eqb (s .parser .error .number) 0 z) refl)))) z
 
-        pub list-lines : (k : ℕ) (r : Listed) (after o2 : List ℕ) → s .parser .error .number ≡ 0 → k ≡ min (limit - readOf s) (length piece)
-            → outcome r after o2 ≡ lines (length (take (k - 0) (drop 0 piece))) s (take (k - 0) (drop 0 piece)) stage output 0 0
+        pub list-lines : (k : ℕ) (d r : Listed) (after o2 : List ℕ) → s .parser .error .number ≡ 0 → k ≡ min (limit - readOf s) (length piece)
+            → d .listing ≡ s → outcome r after o2 ≡ lines (length (take (k - 0) (drop 0 piece))) (d .listing) (take (k - 0) (drop 0 piece)) stage output 0 0
             → outcome r after o2 ≡ listOf s piece stage output
         unfolding listOf
-        list-lines k r after o2 z ek e =
+        list-lines k d r after o2 z ek ed e =
             let n : k - 0 ≡ min (limit - readOf s) (length piece) = omega arith in
             let c : take (k - 0) (drop 0 piece) ≡ readable s piece = ap (λ (j : ℕ). take j piece) n ∙ take-min (limit - readOf s) piece in
             e
-            ∙ ap (λ (x : List ℕ). lines (length x) s x stage output 0 0) c
+            ∙ (λ j. lines (length (c j)) (ed j) (c j) stage output 0 0)
             ∙ sym
             (ap (λ (t : Bool). pick t (lines (length (readable s piece)) s (readable s piece) stage output 0 0) (outcome (listed (first (listRows s stage output)) 0 0 s) stage output))
             (pass-all (listRows s stage output)
@@ -189,9 +231,11 @@ module _ (v : Refusal) (bytes o : List ℕ) where
   unfolding write
   write-not x e n = simp (ap (λ (y : Refusal). passes y) (sym e) ∙ ne-eqb (x .number) 0 n) (ap (λ (y : Refusal). outer.outcome (record { refusal = y; next = 0 }) o) e)
 
-  write-put : (x : Refusal) (next : ℕ) (o2 : List ℕ) → passes v ≡ true → x ≡ none → Puts o 0 bytes next o2 → outer.outcome (record { refusal = x; next = next }) o2 ≡ write v bytes o 0
+  write-put : (x : Refusal) (next : ℕ) (o2 : List ℕ) → passes v ≡ true → x ≡ none → 126 ≤ length o → placed next o2 ≡ putText o 0 bytes → outer.outcome (record { refusal = x; next = next }) o2 ≡ write v bytes o 0
   unfolding write
-  write-put x next o2 f e p = simp f (λ j. outer.outcome (record { refusal = e j; next = p .next j }) (p .bytes j))
+  write-put x next o2 f e h p =
+      let q = text-puts o 0 bytes next o2 h p in
+      simp f (λ j. outer.outcome (record { refusal = e j; next = q j .next }) (q j .output))
 
 not-0 : (n : ℕ) (x : Refusal) → x ≡ refusal n 0 0 0 → (n ≡ 0 → ⊥) → x .number ≡ 0 → ⊥
 not-0 n x e h z = h (sym (ap (λ (y : Refusal). y .number) e) ∙ z)
@@ -200,9 +244,9 @@ module _ (o : List ℕ) where
   pub names-22 : (x : Refusal) → length o < 126 → x ≡ refusal 22 0 0 0 → outer.outcome (record { refusal = x; next = 0 }) o ≡ namesOf o
   names-22 x h e = write-not _ _ _ x (row-stops _ _ x _ (lt-leb 126 (length o) h) e) (not-0 22 x e (λ z. omega arith))
 
-  pub names-put : (x : Refusal) (next : ℕ) (o2 : List ℕ) → 126 ≤ length o → x ≡ none → Puts o 0 names next o2
+  pub names-put : (x : Refusal) (next : ℕ) (o2 : List ℕ) → 126 ≤ length o → x ≡ none → placed next o2 ≡ putText o 0 names
       → outer.outcome (record { refusal = x; next = next }) o2 ≡ namesOf o
-  names-put x next o2 h = write-put _ _ _ x next o2 (pass-all (roomRow o ∷ []) (le-leb 126 (length o) h, tt))
+  names-put x next o2 h e = write-put _ _ _ x next o2 (pass-all (roomRow o ∷ []) (le-leb 126 (length o) h, tt)) e h
 
   module _ (s : Listing) (b : Bool) (eb : b ≡ soundListing s) where
     pub end-23 : (x : Refusal) → not b ≡ true → x ≡ refusal 23 0 0 0
@@ -216,12 +260,12 @@ module _ (o : List ℕ) where
           write-not _ _ _ x (row-passes _ _ x _ (sym eb ∙ not-false b n) (row-stops _ _ x _ (lt-leb 126 (length o) h) e)) (not-0 22 x e (λ z. omega arith))
 
       pub end-put : (x : Refusal) (next k : ℕ) (o2 : List ℕ) → 126 ≤ length o → x ≡ none → k ≡ bufferedOf (s .parser)
-          → Puts o 0 (ending (s .offset) (s .parser .error .number) k) next o2
+          → placed next o2 ≡ putText o 0 (ending (s .offset) (s .parser .error .number) k)
           → outer.outcome (record { refusal = x; next = next }) o2 ≡ endOf s o
       unfolding endLine
       end-put x next k o2 h e ek p =
-          write-put _ _ _ x next o2 (pass-all (soundRow s ∷ roomRow o ∷ []) (sym eb ∙ not-false b n, (le-leb 126 (length o) h, tt))) e
-          (subst (λ (j : ℕ). Puts o 0 (ending (s .offset) (s .parser .error .number) j) next o2) ek p)
+          write-put _ _ _ x next o2 (pass-all (soundRow s ∷ roomRow o ∷ []) (sym eb ∙ not-false b n, (le-leb 126 (length o) h, tt))) e h
+          (p ∙ ap (λ (j : ℕ). putText o 0 (ending (s .offset) (s .parser .error .number) j)) ek)
 
 pub ruleset naming = (names-22, names-put)
 

@@ -5,8 +5,9 @@ use mathlib.Core.Bool.{false}
 use mathlib.Core.List.{List, [], _∷_, _++_}
 use lib.ListN.{length, take, drop}
 use Rattle.wire.specs.Refusals.{passes}
-use Rattle.listing.specs.Listing.{limit}
-use Rattle.listing.specs.Steps.{Outcome, readOf, lineRoom, listOf}
+use Rattle.reach.specs.Reach.{limit}
+use Rattle.lines.specs.Lines.{lineRoom}
+use Rattle.listing.specs.Steps.{Outcome, readOf, listOf}
 use Rattle.listing.specs.declared.listing.Listing.{Listing}
 
 -- what a call has written

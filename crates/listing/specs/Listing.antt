@@ -1,29 +1,14 @@
--- The listing of a capture (01, "The link listing"): its lines, and what a whole input gives.
+-- The listing of a capture (01, "The link listing"): what a whole input gives.
 use Prim.Native.Nat.{ℕ, zero, suc, _+_, _-_}
-use mathlib.Core.List.{List, [], _∷_, _++_}
+use mathlib.Core.List.{List, [], _++_}
 use lib.ListN.{length, take, drop}
 use lib.Dec.{eqb, ltb}
 use Rattle.wire.specs.Refusals.{pick, passes}
 use Rattle.wire.specs.Header.{typeOf, epochOf, sequenceOf, lengthOf}
 use Rattle.protocol.specs.Outer.{valueOf}
 use Rattle.record.specs.Record.{headerChecks, payloadChecks}
-use Rattle.decimal.specs.Decimal.{number}
-
--- ---- the lines; a space is 32, the end of a line 10
--- `at type epoch sequence length open`
-unfoldable pub names : List ℕ
-names =
-    97 ∷ 116 ∷ 32 ∷ 116 ∷ 121 ∷ 112 ∷ 101 ∷ 32 ∷ 101 ∷ 112 ∷ 111 ∷ 99 ∷ 104 ∷ 32 ∷ 115 ∷ 101 ∷ 113 ∷ 117 ∷ 101 ∷ 110 ∷ 99 ∷ 101 ∷ 32
-    ∷ 108 ∷ 101 ∷ 110 ∷ 103 ∷ 116 ∷ 104 ∷ 32 ∷ 111 ∷ 112 ∷ 101 ∷ 110 ∷ 10 ∷ []
-
--- byte offset, type, epoch, sequence, payload length, and open as it stands after the record
-unfoldable pub line : ℕ → ℕ → ℕ → ℕ → ℕ → ℕ → List ℕ
-line offset type epoch sequence size o =
-    ((((number offset 32 ++ number type 32) ++ number epoch 32) ++ number sequence 32) ++ number size 32) ++ number o 10
-
--- `end`, the offset after the last whole record, the refusal or 0, the bytes of an unfinished record
-unfoldable pub ending : ℕ → ℕ → ℕ → List ℕ
-ending offset refusal unfinished = (((101 ∷ 110 ∷ 100 ∷ 32 ∷ []) ++ number offset 32) ++ number refusal 32) ++ number unfinished 10
+use Rattle.lines.specs.Lines.{names, line, ending}
+use Rattle.reach.specs.Reach.{limit}
 
 -- ---- open
 -- 0 after a RESET (3); a DATA (5) adds its length; a CREDIT (9) takes off its value, or all of open if that is less
@@ -34,10 +19,6 @@ openAfter o type size payload =
     (pick (eqb type 9) (o - valueOf payload) o))
 
 -- ---- the whole
--- reading ends at 2^62 bytes
-abbrev pub limit : ℕ
-limit = 4611686018427387904
-
 -- The lines from a record's start on: its offset, open before it, and the bytes b from there. Fewer than 44 bytes, or a header with fewer
 -- payload bytes than its length, are an unfinished record; a header or a payload that its checks refuse ends the listing. n is how many
 -- records there may be, and one.

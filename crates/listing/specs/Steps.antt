@@ -15,8 +15,9 @@ use Rattle.parser.specs.Push as parser
 use Rattle.parser.specs.Push.{soundParser, pushOf, bufferedOf, payloadAt}
 use Rattle.parser.specs.declared.parser.RecordParser.{RecordParser}
 use Rattle.parser.specs.declared.parser.Pushed.{Pushed}
-use Rattle.listing.specs.Listing.{names, line, ending, openAfter, limit}
-use Rattle.listing.specs.Reach.{addsUp, refusedBytes}
+use Rattle.reach.specs.Reach.{limit, addsUp, refusedBytes}
+use Rattle.lines.specs.Lines.{lineRoom, names, line, ending}
+use Rattle.listing.specs.Listing.{openAfter}
 use Rattle.listing.specs.declared.listing.Listing.{Listing}
 use Rattle.listing.specs.declared.listing.Listed.{Listed}
 
@@ -76,11 +77,12 @@ pushed s piece output at o =
 abbrev pub stepOf : Listing → List ℕ → List ℕ → List ℕ → ℕ → Outcome
 stepOf s piece stage output at = pushed s piece output at (pushOf (s .parser) piece stage)
 
--- ---- a piece
--- the room that a line may take: six numbers of up to 20 digits, and a byte after each
-abbrev pub lineRoom : ℕ
-lineRoom = 126
+-- the same with n bytes of the piece taken before
+abbrev pub further : ℕ → Outcome → Outcome
+further n o =
+    outcome (listed (o .listed .refusal) (n + o .listed .taken) (o .listed .written) (o .listed .listing)) (o .stage) (o .output)
 
+-- ---- a piece
 -- record by record, while bytes are left, the output has room for a line and nothing is refused; at most n pushes
 unfoldable pub lines : ℕ → Listing → List ℕ → List ℕ → List ℕ → ℕ → ℕ → Outcome
 lines zero s piece stage output taken at = outcome (listed none taken at s) stage output

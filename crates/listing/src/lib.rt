@@ -1,4 +1,2 @@
-// The link listing (01): the records of a capture as lines of text, made a piece at a time.
+// The link listing (01): its value and its rules, the line of names and the last line.
 pub mod listing;
-mod reach;
-mod text;

@@ -1,33 +1,14 @@
-// The listing's state by value, and the calls that write lines: the names, the records of a piece,
-// the last line.
-use crate::reach::adds_up;
-use crate::reach::refused_bytes;
-use crate::text::put_ending;
-use crate::text::put_line;
-use crate::text::put_names;
-use parser::parser::Pushed;
+// The listing's state by value, whether it is sound, the line of names and the last line.
+use lines::LINE;
+use lines::put_ending;
+use lines::put_names;
 use parser::parser::RecordParser;
-use parser::parser::payload;
-use parser_push::push;
-use payloads::value;
-use protocol::outer::OUTER_MAX_PAYLOAD;
 use protocol::outer::Written;
+use reach::reached;
 use wire::refusal::Refusal;
 ghost use mathlib.Core.Path.{_≡_};
-ghost use mathlib.Core.Bool.{true};
-ghost use Prim.Native.Nat.{_+_, _-_, _^_, _≤_, _<_, min};
-ghost use lib.Dec.{leb};
-ghost use lib.ListN.{length};
-ghost use Rattle.wire.specs.Bytes.{overlay};
 ghost use Rattle.protocol.specs.Outer as outer;
-ghost use Rattle.listing.specs.Listing.{limit, openAfter};
-ghost use Rattle.listing.specs.Steps.{fresh, readOf, soundListing, listed, lineOf, recordListed, stepOf, lines, listOf, outcome, namesOf, endOf};
-
-// The room that a line may take: six numbers of up to 20 digits, and a byte after each.
-pub const LINE: usize = 126;
-
-// Reading ends here as at the end of the input: 2^62 bytes.
-pub const LIMIT: u64 = 4611686018427387904;
+ghost use Rattle.listing.specs.Steps.{fresh, soundListing, namesOf, endOf};
 
 // The record under way in its parser, its offset in the capture, and 01's open before it.
 pub struct Listing {
@@ -36,179 +17,13 @@ pub struct Listing {
     pub open: u64,
 }
 
-// What a call that lists answers: the bytes taken of the piece, the bytes written at the start of
+// What `listing_list::list` answers: the bytes taken of the piece, the bytes written at the start of
 // the output, and the listing after it. A refusal of 1 to 9 is the capture's own, and ends it.
 pub struct Listed {
     pub refusal: Refusal,
     pub taken: usize,
     pub written: usize,
     pub listing: Listing,
-}
-
-// Nothing changed.
-fn stop(listing: Listing, refusal: Refusal) -> Listed
-    ensures { λ r. ⌜ r ≡ listed refusal 0 0 listing ⌝ }
-{
-    Listed {
-        refusal,
-        taken: 0,
-        written: 0,
-        listing,
-    }
-}
-
-fn least(a: usize, b: u64) -> usize
-    ensures { λ r. ⌜ r ≡ min b a ⌝ }
-{
-    if b < a as u64 { b as usize } else { a }
-}
-
-// Whether at most 2^62 bytes were read.
-fn within_limit(offset: u64, held: u64, refused: u64) -> bool
-    ensures { λ r. ⌜ r ≡ leb ((offset + held) + refused) limit ⌝ }
-{
-    if LIMIT < offset {
-        return false;
-    }
-    if LIMIT - offset < held {
-        return false;
-    }
-    refused <= LIMIT - offset - held
-}
-
-// What a CREDIT leaves of open: its value is taken off, or all of open if that is less.
-fn credited(open: u64, amount: u64) -> u64
-    ensures { λ r. ⌜ r ≡ «open» - amount ⌝ }
-{
-    if open < amount {
-        return 0;
-    }
-    open - amount
-}
-
-// Open as it stands after a record of a type's code, with a payload of `size` bytes.
-fn open_after(open: u64, code: u8, size: usize, payload: &[u8]) -> u64
-    requires { ⌜ «open» + size < 2 ^ 64 ⌝ }
-    ensures { λ r. ⌜ r ≡ openAfter «open» code size (now (payload .entry)) ⌝ }
-{
-    if code == 3 {
-        return 0;
-    }
-    if code == 5 {
-        return open + size as u64;
-    }
-    if code == 9 {
-        return credited(open, value(payload) as u64);
-    }
-    open
-}
-
-// A record is complete: its line, and the state after it.
-fn record_line(
-    listing: Listing,
-    pushed: Pushed,
-    payload: &[u8],
-    output: &mut [u8],
-    at: usize,
-) -> Listed
-    requires { ⌜ (at + 126 ≤ length (now output)) × (listing .«open» ≤ listing .offset) × (listing .offset + (44 + pushed .«record» .length) < 2 ^ 64) ⌝ }
-    ensures { λ r. ⌜ (r ≡ recordListed listing pushed (now (payload .entry)) at) × (now (output .exit) ≡ overlay (now (output .entry)) at (lineOf listing (pushed .«record») (now (payload .entry)))) ⌝ }
-{
-    let record = pushed.record;
-    let record_type = record.record_type;
-    let epoch = record.epoch;
-    let sequence = record.sequence;
-    let code = record_type.code();
-    let open = open_after(listing.open, code, record.length, payload);
-    let written = put_line(
-        output,
-        at,
-        listing.offset,
-        code as u64,
-        epoch.0,
-        sequence.0,
-        record.length as u64,
-        open,
-    );
-    let empty = pushed.parser;
-    Listed {
-        refusal: Refusal::none(),
-        taken: pushed.consumed,
-        written,
-        listing: Listing {
-            parser: empty,
-            offset: listing.offset + (44 + record.length as u64),
-            open,
-        },
-    }
-}
-
-// One push, and the line of the record that it completes.
-fn step(listing: Listing, piece: &[u8], stage: &mut [u8], output: &mut [u8], at: usize) -> Listed
-    requires { ⌜ (soundListing listing ≡ true) × (65536 ≤ length (now stage)) × (at + 126 ≤ length (now output)) × (readOf listing + length (now piece) ≤ limit) ⌝ }
-    ensures { λ r. ⌜ outcome r (now (stage .exit)) (now (output .exit)) ≡ stepOf listing (now (piece .entry)) (now (stage .entry)) (now (output .entry)) at ⌝ }
-{
-    let parser = listing.parser;
-    let pushed = push(listing.parser, piece, stage);
-    if pushed.complete {
-        let record = pushed.record;
-        let place = pushed.place;
-        let bytes = payload(piece, stage, place, record.length);
-        return record_line(listing, pushed, bytes, output, at);
-    }
-    let refusal = pushed.refusal;
-    let parser = pushed.parser;
-    Listed {
-        refusal,
-        taken: pushed.consumed,
-        written: at,
-        listing: Listing {
-            parser,
-            offset: listing.offset,
-            open: listing.open,
-        },
-    }
-}
-
-// Record by record, while bytes are left, nothing is refused and the output has room for a line.
-fn list_records(start: Listing, piece: &[u8], stage: &mut [u8], output: &mut [u8]) -> Listed
-    requires { ⌜ (soundListing start ≡ true) × (65536 ≤ length (now stage)) × (126 ≤ length (now output)) × (readOf start + length (now piece) ≤ limit) ⌝ }
-    ensures { λ r. ⌜ outcome r (now (stage .exit)) (now (output .exit)) ≡ lines (length (now (piece .entry))) start (now (piece .entry)) (now (stage .entry)) (now (output .entry)) 0 0 ⌝ }
-{
-    let last = output.len() - LINE;
-    let mut listing = start;
-    let mut taken: usize = 0;
-    let mut written: usize = 0;
-    while taken < piece.len() {
-        if last < written {
-            return Listed {
-                refusal: Refusal::none(),
-                taken,
-                written,
-                listing,
-            };
-        }
-        let r = step(listing, &piece[taken..], stage, output, written);
-        let refusal = r.refusal;
-        let next = r.listing;
-        listing = next;
-        taken += r.taken;
-        written = r.written;
-        if refusal.number != 0 {
-            return Listed {
-                refusal,
-                taken,
-                written,
-                listing,
-            };
-        }
-    }
-    Listed {
-        refusal: Refusal::none(),
-        taken,
-        written,
-        listing,
-    }
 }
 
 // The line of names.
@@ -241,54 +56,15 @@ impl Listing {
     }
 
     // Whether the value is one that a listing can have (23).
-    fn is_sound(self) -> bool
+    pub fn is_sound(self) -> bool
         ensures { λ r. ⌜ r ≡ soundListing self ⌝ }
     {
-        let parser = self.parser;
-        let buffered = parser.buffered();
+        let buffered = self.parser.buffered();
         if buffered.refusal.number != 0 {
             return false;
         }
-        let error = parser.error;
-        let refused = refused_bytes(error.number);
-        if !within_limit(self.offset, buffered.count as u64, refused) {
-            return false;
-        }
-        adds_up(self.offset, self.open)
-    }
-
-    // How many of `size` bytes more are read before reading ends.
-    fn room(self, size: usize) -> usize
-        requires { ⌜ soundListing self ≡ true ⌝ }
-        ensures { λ r. ⌜ r ≡ min (limit - readOf self) size ⌝ }
-    {
-        let parser = self.parser;
-        let buffered = parser.buffered();
-        least(size, LIMIT - (self.offset + buffered.count as u64))
-    }
-
-    // Takes the next piece of the capture, and writes the lines of the records that it completes at
-    // the output's start, as many as fit. What is not taken is to be given again, unless reading
-    // has ended. The stage is the parser's: payload bytes that come in several pieces lie in it.
-    pub fn list(self, piece: &[u8], stage: &mut [u8], output: &mut [u8]) -> Listed
-        ensures { λ r. ⌜ outcome r (now (stage .exit)) (now (output .exit)) ≡ listOf self (now (piece .entry)) (now (stage .entry)) (now (output .entry)) ⌝ }
-    {
-        if !self.is_sound() {
-            return stop(self, Refusal::new(23, 0, 0, 0));
-        }
-        if stage.len() < OUTER_MAX_PAYLOAD {
-            return stop(self, Refusal::new(21, 0, 0, 0));
-        }
-        if output.len() < LINE {
-            return stop(self, Refusal::new(22, 0, 0, 0));
-        }
-        let parser = self.parser;
-        let error = parser.error;
-        if error.number != 0 {
-            return stop(self, error);
-        }
-        let n = self.room(piece.len());
-        list_records(self, &piece[0..n], stage, output)
+        let held = buffered.count as u64;
+        reached(self.offset, self.open, held, self.parser.error.number)
     }
 
     // The last line.
@@ -307,13 +83,11 @@ impl Listing {
                 next: 0,
             };
         }
-        let parser = self.parser;
-        let error = parser.error;
-        let buffered = parser.buffered();
+        let buffered = self.parser.buffered();
         let next = put_ending(
             output,
             self.offset,
-            error.number as u64,
+            self.parser.error.number as u64,
             buffered.count as u64,
         );
         Written {

@@ -23,9 +23,10 @@ use Rattle.parser.specs.Push.{bufferedOf, heldIn}
 use Rattle.claims.proofs.Outcomes.{true-not-false, ready-scan}
 use Rattle.claims.proofs.Feeds.{bytesIn}
 use Rattle.claims.proofs.Latch.{again}
-use Rattle.listing.specs.Listing.{names, line, ending, openAfter, limit, listFrom, linesFrom, listing}
-use Rattle.listing.specs.Reach.{addsUp, refusedBytes}
-use Rattle.listing.specs.Steps.{fresh, readOf, soundListing, listed, Outcome, outcome, stepOf, lineRoom, soundRow, roomRow, lines, listRows, readable, listOf, namesOf, endLine, endOf}
+use Rattle.lines.specs.Lines.{names, line, ending, lineRoom}
+use Rattle.reach.specs.Reach.{limit, addsUp, refusedBytes}
+use Rattle.listing.specs.Listing.{openAfter, listFrom, linesFrom, listing}
+use Rattle.listing.specs.Steps.{fresh, readOf, soundListing, listed, Outcome, outcome, stepOf, soundRow, roomRow, lines, listRows, readable, listOf, namesOf, endLine, endOf}
 use Rattle.listing.specs.Calls.{Ended, all-taken, refused, full}
 use Rattle.listing.specs.declared.listing.Listing.{Listing}
 use Rattle.listing.proofs.Cases.{facts, from-facts, Stepped, stepped}

@@ -28,7 +28,9 @@ use Rattle.claims.proofs.Stream.{completed-ready, completed-empty}
 use Rattle.claims.proofs.Feeds.{Placed, bytesIn, matches, placed-next, bytes-next, payload-next}
 use Rattle.decimal.specs.Decimal.{number, Puts}
 use Rattle.decimal.proofs.Digits.{number-length}
-use Rattle.listing.specs.Listing.{line, ending, openAfter, limit, linesFrom}
+use Rattle.lines.specs.Lines.{line, ending}
+use Rattle.reach.specs.Reach.{limit}
+use Rattle.listing.specs.Listing.{openAfter, linesFrom}
 use Rattle.listing.specs.Steps.{listingOf, readOf, soundListing, listed, Outcome, outcome, opens, lineOf, recordListed, pushed, stepOf}
 use Rattle.listing.specs.declared.listing.Listing.{Listing}
 use Rattle.listing.proofs.Cases.{facts, Stepped, stepped}

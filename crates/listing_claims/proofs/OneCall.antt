@@ -21,8 +21,10 @@ use Rattle.claims.proofs.Scans.{Scan, unfinished, whole, refused, scan}
 use Rattle.claims.proofs.Outcomes.{Pending, Completed, Refused, Matches}
 use Rattle.claims.proofs.Stream.{completed-ready, completed-empty}
 use Rattle.claims.proofs.Feeds.{Placed, bytesIn, matches, placed-next, bytes-next}
-use Rattle.listing.specs.Listing.{openAfter, limit}
-use Rattle.listing.specs.Steps.{readOf, listed, Outcome, outcome, recordListed, stepOf, lineRoom, lines, listRows, readable, listOf}
+use Rattle.lines.specs.Lines.{lineRoom}
+use Rattle.reach.specs.Reach.{limit}
+use Rattle.listing.specs.Listing.{openAfter}
+use Rattle.listing.specs.Steps.{readOf, listed, Outcome, outcome, recordListed, stepOf, lines, listRows, readable, listOf}
 use Rattle.listing.specs.Calls.{Calls, stop, call}
 use Rattle.listing.specs.declared.listing.Listing.{Listing}
 use Rattle.listing.proofs.Lines.{lines-end, lines-step}

@@ -30,14 +30,15 @@ use Rattle.claims.proofs.Outcomes as Held
 use Rattle.claims.proofs.Outcomes.{inHead, inBody, part-of}
 use Rattle.claims.proofs.Latch.{again}
 use Rattle.claims.proofs.Feeds.{fresh-ready}
-use Rattle.listing.specs.Listing.{openAfter, limit}
-use Rattle.listing.specs.Reach.{others, addsUp, refusedBytes}
-use Rattle.listing.specs.Steps.{fresh, soundListing, lineRoom, listOf, Outcome}
+use Rattle.lines.specs.Lines.{lineRoom}
+use Rattle.reach.specs.Reach.{limit, others, addsUp, refusedBytes}
+use Rattle.listing.specs.Listing.{openAfter}
+use Rattle.listing.specs.Steps.{fresh, soundListing, listOf, Outcome}
 use Rattle.listing.specs.Calls as calls
 use Rattle.listing.specs.Calls.{Calls, stop, call, written, all-taken}
 use Rattle.listing.specs.declared.listing.Listing.{Listing}
 use Rattle.listing.proofs.Cases.{facts}
-use Rattle.listing.proofs.Sums.{Rest, nothing, plain, attach, many, value, Sum, sum-of, refused-0}
+use Rattle.reach.proofs.Sums.{Rest, nothing, plain, attach, many, value, Sum, sum-of, refused-0}
 use Rattle.listing_claims.specs.Claims.{Reached, SoundIsReached}
 use Rattle.listing_claims.proofs.Futures.{Good}
 use Rattle.listing_claims.proofs.OneCall.{calls-more, calls-then, At, at-held, Took, took, waits, fails}

@@ -16,8 +16,9 @@ use Rattle.wire.proofs.Rows.{picked, and-right}
 use Rattle.claims.proofs.Outcomes.{true-not-false}
 use Rattle.decimal.specs.Decimal.{Puts}
 use Rattle.decimal.proofs.Puts.{puts-length, puts-then, put-first}
-use Rattle.listing.specs.Listing.{limit}
-use Rattle.listing.specs.Steps.{readOf, soundListing, listed, Outcome, stepOf, lineRoom, lines, listRows, readable, listOf}
+use Rattle.lines.specs.Lines.{lineRoom}
+use Rattle.reach.specs.Reach.{limit}
+use Rattle.listing.specs.Steps.{readOf, soundListing, listed, Outcome, stepOf, lines, listRows, readable, listOf}
 use Rattle.listing.specs.Calls.{Calls, stop, call, written}
 use Rattle.listing.specs.declared.listing.Listing.{Listing}
 use Rattle.listing.proofs.Cases.{facts, Stepped, stepped}

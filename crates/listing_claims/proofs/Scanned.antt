@@ -15,7 +15,8 @@ use Rattle.wire.specs.Header.{typeOf, epochOf, sequenceOf, lengthOf}
 use Rattle.wire.specs.declared.refusal.Refusal.{Refusal}
 use Rattle.record.specs.Record.{headerChecks, payloadChecks}
 use Rattle.claims.proofs.Scans.{Scan, unfinished, whole, refused, scan, scanValue, scanBody, scanHeader, scan-short, scan-cut, scan-append}
-use Rattle.listing.specs.Listing.{line, ending, openAfter, listFrom, linesFrom}
+use Rattle.lines.specs.Lines.{line, ending}
+use Rattle.listing.specs.Listing.{openAfter, listFrom, linesFrom}
 
 -- what is listed of bytes b, by their scan
 say : ℕ → ℕ → ℕ → List ℕ → Scan → List ℕ

@@ -9,9 +9,10 @@ use Rattle.wire.specs.Refusals.{passes}
 use Rattle.protocol.specs.Outer as outer
 use Rattle.protocol.specs.Outer.{maxPayload}
 use Rattle.parser.specs.Push.{soundParser, bufferedOf}
-use Rattle.listing.specs.Listing.{limit, listing}
-use Rattle.listing.specs.Reach.{refusedBytes}
-use Rattle.listing.specs.Steps.{fresh, readOf, soundListing, lineRoom, listOf, namesOf, endOf}
+use Rattle.lines.specs.Lines.{lineRoom}
+use Rattle.reach.specs.Reach.{limit, refusedBytes}
+use Rattle.listing.specs.Listing.{listing}
+use Rattle.listing.specs.Steps.{fresh, readOf, soundListing, listOf, namesOf, endOf}
 use Rattle.listing.specs.Calls.{Calls, Ended}
 use Rattle.listing.specs.declared.listing.Listing.{Listing}
 use Rattle.listing_claims.specs.Example.{capture, printed}

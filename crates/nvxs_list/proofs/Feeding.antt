@@ -7,7 +7,8 @@ use native.Mathlib.Omega.{arith}
 use lib.ListN.{length, take, drop, length-drop, drop-of-length-le}
 use lib.Seq.{drop-drop}
 use Rattle.parser.proofs.Parts.{part-end}
-use Rattle.listing.specs.Steps.{Outcome, outcome, lineRoom, listOf}
+use Rattle.lines.specs.Lines.{lineRoom}
+use Rattle.listing.specs.Steps.{Outcome, outcome, listOf}
 use Rattle.listing.specs.Calls.{Calls, stop, call, written}
 use Rattle.listing.specs.declared.listing.Listing.{Listing}
 use Rattle.listing.specs.declared.listing.Listed.{Listed}

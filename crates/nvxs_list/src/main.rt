@@ -1,7 +1,8 @@
 // Lists the records of a capture: standard input to standard output (01, "The link listing").
-use listing::listing::LIMIT;
 use listing::listing::Listing;
 use listing::listing::names;
+use listing_list::list;
+use reach::LIMIT;
 ghost use mathlib.Core.Path.{_≡_};
 ghost use mathlib.Core.Bool.{true};
 ghost use Prim.Native.Nat.{_≤_, _<_};
@@ -45,7 +46,7 @@ fn feed(start: Listing, piece: &[u8], stage: &mut [u8], output: &mut [u8]) -> Fe
     let mut listing = start;
     let mut taken: usize = 0;
     while taken < piece.len() {
-        let r = listing.list(&piece[taken..], stage, output);
+        let r = list(listing, &piece[taken..], stage, output);
         let next = r.listing;
         listing = next;
         taken += r.taken;
@@ -77,8 +78,30 @@ fn feed_first(
     feed(start, &buffer[0..count], stage, output)
 }
 
-// Reads to the end, where a read that fails is one, and lists. Each turn but the last reads a byte
-// or more, so that LIMIT turns are enough.
+// Reads once and lists what came. A read that fails is the end of the input.
+fn read_once(listing: Listing, buffer: &mut [u8], stage: &mut [u8], output: &mut [u8]) -> Fed
+    requires { ⌜ 126 ≤ length (now output) ⌝ }
+{
+    let got = libc::read(0, buffer);
+    if got < 0 {
+        io::write_all(2, b"nvxs_list: standard input cannot be read\n");
+        return Fed {
+            listing,
+            more: false,
+        };
+    }
+    let count = io::count(got, buffer);
+    if count == 0 {
+        return Fed {
+            listing,
+            more: false,
+        };
+    }
+    feed_first(listing, buffer, count, stage, output)
+}
+
+// Reads to the end, and lists. Each turn but the last reads a byte or more, so that LIMIT turns are
+// enough.
 fn read_all(output: &mut [u8]) -> Listing
     requires { ⌜ 126 ≤ length (now output) ⌝ }
 {
@@ -88,16 +111,7 @@ fn read_all(output: &mut [u8]) -> Listing
     let mut turns = LIMIT;
     while 0 < turns {
         turns -= 1;
-        let got = libc::read(0, &mut buffer);
-        if got < 0 {
-            io::write_all(2, b"nvxs_list: standard input cannot be read\n");
-            return listing;
-        }
-        let count = io::count(got, &buffer);
-        if count == 0 {
-            return listing;
-        }
-        let fed = feed_first(listing, &buffer, count, &mut stage, output);
+        let fed = read_once(listing, &mut buffer, &mut stage, output);
         let next = fed.listing;
         listing = next;
         if !fed.more {

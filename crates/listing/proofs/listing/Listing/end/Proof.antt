@@ -38,7 +38,7 @@ same-length : tie.Need-same-length
 same-length c = search needs
 
 returns-3 : tie.Need-returns-3
-returns-3 c = end-put _ (c .before .before .before .before .before .before .before .before .before .before .before .before .before .args .self) (c .before .before .before .before .before .before .before .before .before .before .before .is-sound .result) (c .before .before .before .before .before .before .before .before .before .before .before .is-sound .ensures) (c .before .before .before .before .before .before .before .before .before .before .if1 .left) _ _ _ _ (c .before .before .before .before .before .before .before .before .before .if2 .left) (c .none .ensures) (count-is (c .before .before .before .before .before .before .before .before .before .before .before .before .before .args .self) _ (c .before .before .before .before .before .before .buffered .ensures) (sym (c .before .before .before .before .before .before .before .before .before .before .before .is-sound .ensures) ∙ not-false _ (c .before .before .before .before .before .before .before .before .before .before .if1 .left))) (c .before .before .before .put-ending .ensures)
+returns-3 c = let s = c .before .before .before .before .before .before .before .before .before .before .before .args .self in let t = c .before .before .before .before .before .before .before .before .before .is-sound .ensures in end-put _ s (c .before .before .before .before .before .before .before .before .before .is-sound .result) t (c .before .before .before .before .before .before .before .before .if1 .left) _ _ _ _ (c .before .before .before .before .before .before .before .if2 .left) (c .none .ensures) (count-is s _ (c .before .before .before .before .before .before .buffered .ensures) (sym t ∙ not-false _ (c .before .before .before .before .before .before .before .before .if1 .left))) (c .before .before .before .put-ending .ensures)
 
 pub end-spec : {M : Type 1} → statement M
 end-spec =
