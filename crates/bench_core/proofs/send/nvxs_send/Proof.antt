@@ -7,10 +7,10 @@ use Rattle.bench_core.proofs.send.nvxs_send.Statement.{statement}
 use Rattle.bench_core.proofs.send.nvxs_send.Tie as tie
 
 abbrev Inv-loop : tie.InvT-loop
-Inv-loop «data» size stage output₀ run₀ at₀ output run at = length output ≡ length output₀
+Inv-loop «data» size output₀ run₀ at₀ output run at = length output ≡ length output₀
 
 abbrev μ-loop : tie.MeasureT-loop
-μ-loop «data» size stage output₀ run₀ at₀ output run at = length «data» - at
+μ-loop «data» size output₀ run₀ at₀ output run at = length «data» - at
 
 active-guest-requires : tie.Need-active-guest-requires Inv-loop μ-loop
 active-guest-requires c κs = search needs
@@ -24,9 +24,6 @@ turn-requires c κs = search needs
 same-length : tie.Need-same-length Inv-loop μ-loop
 same-length c = search needs
 
-same-length-2 : tie.Need-same-length-2 Inv-loop μ-loop
-same-length-2 c = search needs
-
 returns : tie.Need-returns Inv-loop μ-loop
 returns c = search needs
 
@@ -36,11 +33,8 @@ loop-less c = search needs
 loop-again : tie.Need-loop-again Inv-loop μ-loop
 loop-again c = search needs
 
-same-length-3 : tie.Need-same-length-3 Inv-loop μ-loop
-same-length-3 c = search needs
-
-same-length-4 : tie.Need-same-length-4 Inv-loop μ-loop
-same-length-4 c = search needs
+same-length-2 : tie.Need-same-length-2 Inv-loop μ-loop
+same-length-2 c = search needs
 
 returns-2 : tie.Need-returns-2 Inv-loop μ-loop
 returns-2 c = search needs
@@ -55,10 +49,8 @@ nvxs-send-spec =
     loop-holds
     turn-requires
     same-length
-    same-length-2
     returns
     loop-less
     loop-again
-    same-length-3
-    same-length-4
+    same-length-2
     returns-2)
