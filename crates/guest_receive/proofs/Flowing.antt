@@ -308,5 +308,6 @@ module _ (g : GuestSession) (piece stage : List ℕ) where
       → outcome (withSession a s) left ≡ receiveOf g piece stage
   any-way done end left before a s e el eb ea es = (λ j. outcome (withSession (ea j) (es j)) (el j)) ∙ e ∙ ap (receiveOf g piece) eb
 
-  pub way-out : (r : Received) (left : List ℕ) (a : Answer) (s : GuestSession) → r ≡ withSession a s → outcome (withSession a s) left ≡ receiveOf g piece stage → outcome r left ≡ receiveOf g piece stage
-  way-out r left a s er e = ap (λ (x : Received). outcome x left) er ∙ e
+  pub way-out : (given : GuestSession) (r : Received) (left : List ℕ) (a : Answer) (s : GuestSession) → g ≡ given → r ≡ withSession a s → outcome (withSession a s) left ≡ receiveOf g piece stage
+      → outcome r left ≡ receiveOf given piece stage
+  way-out given r left a s eg er e = ap (λ (x : Received). outcome x left) er ∙ e ∙ ap (λ (x : GuestSession). receiveOf x piece stage) eg

@@ -528,12 +528,36 @@ fn with_session(answer: Answer, session: GuestSession) -> Received
     }
 }
 
-// Takes bytes of the piece up to the end of one record, and reports what the record says. Where DATA
-// may flow, what does not change of the session stays in its place: it has one way out, and
-// `receive_any` has the rest.
-pub fn receive(mut session: GuestSession, piece: &[u8], stage: &mut [u8]) -> Received
-    ensures { λ r. ⌜ receiving.outcome r (now (stage .exit)) ≡ receiveOf session (now (piece .entry)) (now (stage .entry)) ⌝ }
+// The same session field by field, so that the bytes between its fields are not moved.
+fn apart(session: GuestSession) -> GuestSession
+    ensures { λ r. ⌜ r ≡ session ⌝ }
 {
+    let parser = session.parser;
+    let identity = session.identity.identity;
+    let receive_sequence = session.receive_sequence;
+    let send_sequence = session.send_sequence;
+    let state = session.state;
+    GuestSession {
+        parser,
+        identity: OptionalIdentity {
+            present: session.identity.present,
+            identity,
+        },
+        receive_sequence,
+        send_sequence,
+        window: session.window,
+        outstanding: session.outstanding,
+        state,
+    }
+}
+
+// Takes bytes of the piece up to the end of one record, and reports what the record says. Where DATA
+// may flow, what does not change of the session stays in its place: there is one way out, and
+// `receive_any` has the rest.
+pub fn receive(given: GuestSession, piece: &[u8], stage: &mut [u8]) -> Received
+    ensures { λ r. ⌜ receiving.outcome r (now (stage .exit)) ≡ receiveOf given (now (piece .entry)) (now (stage .entry)) ⌝ }
+{
+    let mut session = apart(given);
     let mut answer = accepted(piece.len(), GuestEvent::Nothing, Place::Piece(0), 0);
     if flows(session, stage.len()) {
         if session.parser.stays_open(piece.len()) {

@@ -87,7 +87,7 @@ impl Listing {
         let next = put_ending(
             output,
             self.offset,
-            self.parser.error.number as u64,
+            self.parser.error.number,
             buffered.count as u64,
         );
         Written {

@@ -26,7 +26,7 @@ fn flush(output: &[u8], count: usize) -> bool {
 
 // Whether there is more to list: what was written went out, nothing was refused, and bytes were
 // taken.
-fn goes_on(out: bool, number: u8, taken: usize) -> bool
+fn goes_on(out: bool, number: u64, taken: usize) -> bool
     ensures { λ r. ⌜ (r ≡ true → 0 < taken) ⌝ }
 {
     if !out {

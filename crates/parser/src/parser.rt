@@ -64,7 +64,7 @@ fn counts_ok(header: &[u8; 44], header_len: usize, payload_len: usize) -> bool
 }
 
 // Whether a latched error is one of 1 to 9 and goes with count 0.
-fn error_ok(number: u8, header_len: usize) -> bool
+fn error_ok(number: u64, header_len: usize) -> bool
     ensures { λ r. ⌜ r ≡ errorOk number «header_len» ⌝ }
 {
     if number == 0 {

@@ -56,7 +56,7 @@ fn encoded(value: u32) -> EncodedPayload
 }
 
 // No payload is given.
-fn not_encoded(number: u8) -> EncodedPayload
+fn not_encoded(number: u64) -> EncodedPayload
     ensures { λ r. ⌜ r ≡ refusedEncoding number ⌝ }
 {
     EncodedPayload {
@@ -76,7 +76,7 @@ fn decoded(value: u32) -> DecodedPayload
 }
 
 // No value is given.
-fn not_decoded(number: u8) -> DecodedPayload
+fn not_decoded(number: u64) -> DecodedPayload
     ensures { λ r. ⌜ r ≡ refusedDecoding number ⌝ }
 {
     DecodedPayload {

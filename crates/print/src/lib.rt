@@ -48,8 +48,8 @@ pub fn fields(instance_id: &[u8], epoch: u64, sequence: u64, length: usize) {
 }
 
 // Internal: only writes to standard output.
-pub fn refusal(number: u8) {
-    labelled(b"refusal ", number as u64);
+pub fn refusal(number: u64) {
+    labelled(b"refusal ", number);
 }
 
 // Internal: only writes to standard output.

@@ -70,7 +70,7 @@ pub fn encode_header(
 }
 
 // Nothing is written.
-fn not_written(number: u8) -> Written
+fn not_written(number: u64) -> Written
     ensures { λ r. ⌜ r ≡ notWritten number ⌝ }
 {
     Written {
@@ -147,7 +147,7 @@ fn header_of(header: &[u8; 44]) -> OuterHeader
 }
 
 // No header is given.
-fn no_header(number: u8) -> DecodedHeader
+fn no_header(number: u64) -> DecodedHeader
     ensures { λ r. ⌜ r ≡ refusedHeader number ⌝ }
 {
     DecodedHeader {

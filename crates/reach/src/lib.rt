@@ -54,7 +54,7 @@ fn adds_up(offset: u64, open: u64) -> bool
 }
 
 // The bytes of a refused record that were read.
-fn refused_bytes(number: u8) -> u64
+fn refused_bytes(number: u64) -> u64
     ensures { λ r. ⌜ r ≡ refusedBytes number ⌝ }
 {
     if number == 0 {
@@ -81,7 +81,7 @@ fn within_limit(offset: u64, held: u64, refused: u64) -> bool
 
 // Whether some capture leaves these counts: whole records of `offset` bytes that leave `open`, then
 // `held` bytes of a record under way, or a record refused by `number` (0: none).
-pub fn reached(offset: u64, open: u64, held: u64, number: u8) -> bool
+pub fn reached(offset: u64, open: u64, held: u64, number: u64) -> bool
     ensures { λ r. ⌜ r ≡ reached offset «open» held number ⌝ }
 {
     if !within_limit(offset, held, refused_bytes(number)) {

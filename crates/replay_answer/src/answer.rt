@@ -131,7 +131,7 @@ pub fn blank() -> Answer {
 // An answer with a refusal alone; the blank answer where its number is 0.
 // Internal: harness code, held to the Rust's answers by the run.
 pub fn refused(refusal: Refusal) -> Answer {
-    put_figures(put1(blank(), 7, refusal.number), 8, refusal)
+    put_figures(put1(blank(), 7, (refusal.number % 256) as u8), 8, refusal)
 }
 
 // The answer with so many bytes of state.

@@ -19,8 +19,8 @@ pub struct Identity {
 
 // An identity that may be missing. Where none is held, the bytes beside the mark mean nothing.
 pub struct OptionalIdentity {
-    pub identity: Identity,
     pub present: bool,
+    pub identity: Identity,
 }
 
 // The sequence after another, or the refusal.

@@ -3,14 +3,14 @@ ghost use mathlib.Core.Path.{_≡_};
 ghost use Rattle.wire.specs.Refusals.{refusal, none};
 
 // 01's record of a refusal: its number, three figures and two fields of 16 bytes; what a number
-// does not use is 0. Number 0: no refusal.
+// does not use is 0. Number 0: no refusal. All of it is in whole words, which move without gaps.
 pub struct Refusal {
+    pub number: u64,
     pub a: u64,
     pub b: u64,
     pub c: u64,
     pub expected: [u8; 16],
     pub actual: [u8; 16],
-    pub number: u8,
 }
 
 impl Refusal {
@@ -22,7 +22,7 @@ impl Refusal {
     }
 
     // A refusal with its figures.
-    pub fn new(number: u8, a: u64, b: u64, c: u64) -> Refusal
+    pub fn new(number: u64, a: u64, b: u64, c: u64) -> Refusal
         ensures { λ r. ⌜ r ≡ refusal number a b c ⌝ }
     {
         Refusal {

@@ -12,6 +12,9 @@ use borrow.Author.Needs.{needs}
 use Rattle.guest_receive.proofs.receive.Statement.{statement}
 use Rattle.guest_receive.proofs.receive.Tie as tie
 
+apart-requires : tie.Need-apart-requires
+apart-requires c κs = search needs
+
 accepted-requires : tie.Need-accepted-requires
 accepted-requires c κs = search needs
 
@@ -74,26 +77,27 @@ with-session-requires c κs = search needs
 
 same-length : tie.Need-same-length
 same-length c =
-    ⊎-elim (λ w. ap length (w .11) ∙ w .5 .given)
-    (⊎-elim (λ w. ap length (w .16) ∙ w .7 .given) (⊎-elim (λ w. ap length (w .17) ∙ w .12 .given ∙ w .7 .given) (λ w. ap length (w .8) ∙ w .3 .given)))
+    ⊎-elim (λ w. ap length (w .10) ∙ w .5 .given)
+    (⊎-elim (λ w. ap length (w .15) ∙ w .7 .given) (⊎-elim (λ w. ap length (w .16) ∙ w .12 .given ∙ w .7 .given) (λ w. ap length (w .7) ∙ w .3 .given)))
     (c .before .if1 .came)
 
 returns : tie.Need-returns
 returns c =
-    way-out _ _ _ _ _ _ _ (c .with-session .ensures)
+    way-out _ _ _ _ _ _ _ _ (c .before .before .before .before .apart .ensures) (c .with-session .ensures)
     (⊎-elim
-    (λ w. open-way _ _ _ (flow-told _ _ _ (c .before .before .flows .ensures) (w .0 .taken)) _ _ _ _ _ (w .1 .ensures) (w .2 .taken) (w .11 ∙ w .4 .ensures) (w .8 .ensures) (w .12 ∙ c .before .before .before .accepted .ensures) (w .10))
+    (λ w. open-way _ _ _ (flow-told _ _ _ (c .before .before .flows .ensures) (w .0 .taken)) _ _ _ _ _ (w .1 .ensures) (w .2 .taken) (w .10 ∙ w .4 .ensures) (w .8 .ensures) (w .12 ∙ c .before .before .before .accepted .ensures) (w .11))
     (⊎-elim
-    (λ w. step-way _ _ _ (flow-told _ _ _ (c .before .before .flows .ensures) (w .0 .taken)) _ _ _ _ _ _ _ (w .6 .ensures) (w .16) (w .9 .taken) (w .11 .ensures) (w .17 ∙ w .10 .ensures) (w .15))
+    (λ w. step-way _ _ _ (flow-told _ _ _ (c .before .before .flows .ensures) (w .0 .taken)) _ _ _ _ _ _ _ (w .6 .ensures) (w .15) (w .9 .taken) (w .11 .ensures) (w .17 ∙ w .10 .ensures) (w .16))
     (⊎-elim
-    (λ w. any-way _ _ _ _ _ _ _ _ _ (w .11 .ensures) (w .17) (w .6 .ensures .leaves (w .9 .left)) (w .18 ∙ w .15 .ensures) (w .16))
-    (λ w. any-way _ _ _ _ _ _ _ _ _ (w .2 .ensures) (w .8) refl (w .9 ∙ w .6 .ensures) (w .7))))
+    (λ w. any-way _ _ _ _ _ _ _ _ _ (w .11 .ensures) (w .16) (w .6 .ensures .leaves (w .9 .left)) (w .18 ∙ w .15 .ensures) (w .17))
+    (λ w. any-way _ _ _ _ _ _ _ _ _ (w .2 .ensures) (w .7) refl (w .9 ∙ w .6 .ensures) (w .8))))
     (c .before .if1 .came))
 
 pub receive-spec : {M : Type 1} → statement M
 receive-spec =
     tie.close
     (tie.spec
+    apart-requires
     accepted-requires
     flows-requires
     stays-open-requires
