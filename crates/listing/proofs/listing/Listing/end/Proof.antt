@@ -25,9 +25,6 @@ returns-2 c = search ends
 buffered-requires : tie.Need-buffered-requires
 buffered-requires c κs = search needs
 
-cast-put-ending : tie.Need-cast-put-ending
-cast-put-ending c = search needs
-
 put-ending-requires : tie.Need-put-ending-requires
 put-ending-requires c κs = search needs
 
@@ -38,7 +35,7 @@ same-length : tie.Need-same-length
 same-length c = search needs
 
 returns-3 : tie.Need-returns-3
-returns-3 c = let s = c .before .before .before .before .before .before .before .before .before .before .before .args .self in let t = c .before .before .before .before .before .before .before .before .before .is-sound .ensures in end-put _ s (c .before .before .before .before .before .before .before .before .before .is-sound .result) t (c .before .before .before .before .before .before .before .before .if1 .left) _ _ _ _ (c .before .before .before .before .before .before .before .if2 .left) (c .none .ensures) (count-is s _ (c .before .before .before .before .before .before .buffered .ensures) (sym t ∙ not-false _ (c .before .before .before .before .before .before .before .before .if1 .left))) (c .before .before .before .put-ending .ensures)
+returns-3 c = let s = c .before .before .before .before .before .before .before .before .before .before .args .self in let t = c .before .before .before .before .before .before .before .before .is-sound .ensures in end-put _ s (c .before .before .before .before .before .before .before .before .is-sound .result) t (c .before .before .before .before .before .before .before .if1 .left) _ _ _ _ (c .before .before .before .before .before .before .if2 .left) (c .none .ensures) (count-is s _ (c .before .before .before .before .before .buffered .ensures) (sym t ∙ not-false _ (c .before .before .before .before .before .before .before .if1 .left))) (c .before .before .before .put-ending .ensures)
 
 pub end-spec : {M : Type 1} → statement M
 end-spec =
@@ -50,7 +47,6 @@ end-spec =
     new-requires-2
     returns-2
     buffered-requires
-    cast-put-ending
     put-ending-requires
     none-requires
     same-length
