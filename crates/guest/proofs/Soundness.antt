@@ -130,6 +130,3 @@ module _ (g : GuestSession) (e : soundGuest g ≡ true) where
 -- the same from the code's test
 pub sound-outstanding : (g : GuestSession) (b : Bool) → b ≡ soundGuest g → not b ≡ false → g .outstanding ≤ g .window
 sound-outstanding g b eb n = outstanding-low g (sym eb ∙ not-false b n)
-
-pub sound-within : (g : GuestSession) (b : Bool) → b ≡ soundGuest g → not b ≡ false → soundParser (g .parser) ≡ true
-sound-within g b eb n = sound-inside g (sym eb ∙ not-false b n)

@@ -25,7 +25,7 @@ use Rattle.parser.proofs.Cases.{type-code, body-waits, body-piece, body-stage, 
 use Rattle.session.specs.Checks.{same, noIdentity, lastSequence}
 use Rattle.wire.specs.declared.refusal.Refusal.{Refusal}
 use Rattle.session.specs.declared.session.Identity.{Identity}
-use Rattle.guest.specs.State.{code, activeGuest, soundGuest, withState}
+use Rattle.guest.specs.State.{code, activeGuest, withState}
 use Rattle.guest.specs.declared.guest.GuestSession.{GuestSession}
 use Rattle.guest.proofs.Soundness.{active-state, active-low, active-sound}
 use Rattle.guest_receive.specs.Receive.{dataRows, told, afterPush, outcome, receiveOf}

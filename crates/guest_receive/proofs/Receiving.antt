@@ -247,9 +247,6 @@ pub keep-waits : (g : GuestSession) (k n : ℕ) (y z : Refusal) (i : Identity) (
 keep-waits g k n y z i s ey ez ei es =
     push-waits g (pushing.waiting (g .parser .header) 44 k n) y i s refl refl ey ei (es ∙ ap (λ (w : Refusal). withState g (g .state) (pushing.parserOf (g .parser .header) 44 k w)) ez)
 
-pub stays-told : (b t : Bool) → b ≡ t → b ≡ true → t ≡ true
-stays-told b t e q = sym e ∙ q
-
 pub stays-low : (p : RecordParser) (n : ℕ) (b : Bool) → soundParser p ≡ true → b ≡ eqb (p .«header_len») 44 && ltb (p .«payload_len» + n) (lengthOf (p .header)) → b ≡ true → p .«payload_len» + n < 2 ^ 32
 stays-low p n b ok e q =
     let o : eqb (p .«header_len») 44 && ltb (p .«payload_len» + n) (lengthOf (p .header)) ≡ true = sym e ∙ q in
