@@ -603,6 +603,7 @@ pub fn receive(given: GuestSession, piece: &[u8], stage: &mut [u8]) -> Received
     }
     with_session(answer, session)
 }
+
 // The bytes of DATA that a receive handed out, as a part of the piece or of the stage.
 pub fn payload<'a>(piece: &'a [u8], stage: &'a [u8], place: Place, length: usize) -> &'a [u8]
     ensures { λ r. ⌜ now r ≡ payloadAt place length (now (piece .entry)) (now (stage .entry)) ⌝ }
