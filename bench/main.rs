@@ -77,7 +77,10 @@ fn time(counts: &[[u64; 2]]) {
             eprintln!("bench: {}: the answers differ", case.name());
             std::process::exit(1);
         }
-        let [rattle, rust] = best(&mut bench).map(|total| total / bench.calls() as f64);
+        // Only the Rust sets its session up within the run.
+        let setup = best(&mut Bench::new(case, 0));
+        let total = best(&mut bench);
+        let [rattle, rust] = [0, 1].map(|side| (total[side] - setup[side]) / bench.calls() as f64);
         let ratio = rattle / rust;
         let (goal, reached) = match case.goal() {
             Some(goal) => (format!("{goal}"), if ratio <= goal { "yes" } else { "no" }),
