@@ -5,7 +5,7 @@ use native.Mathlib.Omega.{arith}
 use lib.ListN.{length, take, drop, replicate}
 use Rattle.wire.specs.Bytes.{overlay, Octets, end, octet}
 
-octets-take : (n : ℕ) {l : List ℕ} → Octets l → Octets (take n l)
+pub octets-take : (n : ℕ) {l : List ℕ} → Octets l → Octets (take n l)
 octets-take zero o = end
 octets-take (suc n) end = end
 octets-take (suc n) (octet h o) = octet h (octets-take n o)

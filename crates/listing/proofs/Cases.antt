@@ -1,12 +1,12 @@
 -- The cases of the listing's rules, a law for each `return` of the code: what was tested there, and what is answered. Assumes nothing.
 use Prim.Native.Nat.{ℕ, _+_, _-_, _^_, _≤_, _<_}
 use mathlib.Core.Path.{_≡_, refl, sym, ap, _∙_}
-use mathlib.Core.Bool.{Bool, true, false, _&&_}
+use mathlib.Core.Bool.{Bool, true, false, not, _&&_}
 use mathlib.Core.List.{List}
 use native.Mathlib.Omega.{arith}
 use lib.ListN.{length}
 use lib.Dec.{leb}
-use borrow.Author.Tests.{le-leb, leb-true, eq-eqb, ne-eqb}
+use borrow.Author.Tests.{le-leb, leb-true, eq-eqb, ne-eqb, not-true, not-false}
 use Rattle.wire.specs.Bytes.{overlay}
 use Rattle.wire.specs.Refusals.{pick, refusal, none, passes}
 use Rattle.protocol.specs.Outer.{valueOf}
@@ -17,17 +17,19 @@ use Rattle.parser.specs.Push as parser
 use Rattle.parser.specs.Push.{soundParser, pushOf, push, heldIn, bufferedOf, counted, payloadAt}
 use Rattle.parser.specs.declared.parser.Count.{Count}
 use Rattle.parser.specs.declared.parser.Pushed.{Pushed}
+use Rattle.parser.specs.declared.parser.RecordParser.{RecordParser}
 use Rattle.decimal.specs.Decimal.{Placed, placed}
 use Rattle.lines.specs.Lines.{line, putText}
 use Rattle.lines.proofs.Texts.{text-puts}
 use Rattle.reach.specs.Reach.{limit, addsUp, refusedBytes, reached}
 use Rattle.reach.proofs.Sums.{adds-low}
 use Rattle.listing.specs.Listing.{openAfter}
-use Rattle.listing.specs.Steps.{listingOf, readOf, soundListing, listed, Outcome, outcome, opens, lineOf, recordListed, pushed, stepOf}
+use Rattle.listing.specs.Steps.{listingOf, readOf, settled, isSettled, soundListing, listed, Outcome, outcome, opens, lineOf, recordListed, pushed, stepOf}
 use Rattle.listing.specs.declared.listing.Listing.{Listing}
 use Rattle.listing.specs.declared.listing.Listed.{Listed}
 use Rattle.listing.proofs.Kept.{keeps}
 use Rattle.listing.proofs.Counts.{Came, came}
+use Rattle.listing.proofs.Settled.{settled-number, settled-sound, settled-held, settles}
 
 -- ---- soundness
 module _ (s : Listing) (c : Count) (e : c ≡ counted (s .parser) (bufferedOf (s .parser))) where
@@ -47,18 +49,26 @@ module _ (s : Listing) (c : Count) (e : c ≡ counted (s .parser) (bufferedOf (s
       (λ _ q. let z : 23 ≡ 0 = sym (ap (λ (x : Count). x .refusal .number) q) ∙ h in absurd (omega arith))
       e
 
+  abbrev counts : Bool
+  counts = leb (readOf s + refusedBytes (s .parser .error .number)) limit && addsUp (s .offset) (s .«open»)
+
   abbrev after : Bool
-  after = leb (readOf s + refusedBytes (s .parser .error .number)) limit && addsUp (s .offset) (s .«open»)
+  after = isSettled (s .parser) && counts
 
   pub sound-not : (c .refusal .number ≡ 0 → ⊥) → false ≡ soundListing s
   unfolding soundListing
   sound-not h = sym (ap (λ (t : Bool). t && after) (counted-not h))
 
-  pub sound-reached : c .refusal .number ≡ 0 → (r : Bool) → r ≡ reached (s .offset) (s .«open») (c .count) (s .parser .error .number) → r ≡ soundListing s
-  unfolding soundListing
-  sound-reached h r q =
-      let k = counted-sound h in
-      q ∙ sym (λ j. k .0 j && reached (s .offset) (s .«open») (sym (k .1) j) (s .parser .error .number))
+  module _ (h : c .refusal .number ≡ 0) (b : Bool) (w : b ≡ isSettled (s .parser)) where
+    pub sound-more : not b ≡ true → false ≡ soundListing s
+    unfolding soundListing
+    sound-more n = sym (λ j. counted-sound h .0 j && ((sym w ∙ not-true b n) j && counts))
+
+    pub sound-reached : not b ≡ false → (r : Bool) → r ≡ reached (s .offset) (s .«open») (c .count) (s .parser .error .number) → r ≡ soundListing s
+    unfolding soundListing
+    sound-reached n r q =
+        let k = counted-sound h in
+        q ∙ sym (λ j. k .0 j && ((sym w ∙ not-false b n) j && reached (s .offset) (s .«open») (sym (k .1) j) (s .parser .error .number)))
 
   -- of a sound listing the parser is, so that its count is the bytes that it holds
   pub count-is : soundListing s ≡ true → c .count ≡ bufferedOf (s .parser)
@@ -68,10 +78,11 @@ module _ (s : Listing) (c : Count) (e : c ≡ counted (s .parser) (bufferedOf (s
       (e ∙ ap (λ (b : Bool). pick b (record { refusal = none; count = bufferedOf (s .parser) }) (record { refusal = refusal 23 0 0 0; count = 0 }))
       (and-left (soundParser (s .parser)) after t))
 
-pub ruleset soundness = (sound-not, sound-reached)
+pub ruleset soundness = (sound-not, sound-more, sound-reached)
 
 pub record Facts (s : Listing) : Type 0 where
   pub parser : soundParser (s .parser) ≡ true
+  pub settled : isSettled (s .parser) ≡ true
   pub sums : addsUp (s .offset) (s .«open») ≡ true
   pub «open» : s .«open» ≤ s .offset
   pub read : readOf s ≤ limit
@@ -84,23 +95,27 @@ module _ (s : Listing) where
   pub facts : soundListing s ≡ true → Facts s
   unfolding soundListing
   facts t =
-      let q : few && addsUp (s .offset) (s .«open») ≡ true = and-right (soundParser (s .parser)) (few && addsUp (s .offset) (s .«open»)) t in
+      let k : isSettled (s .parser) && (few && addsUp (s .offset) (s .«open»)) ≡ true =
+      and-right (soundParser (s .parser)) (isSettled (s .parser) && (few && addsUp (s .offset) (s .«open»))) t
+      in
+      let q : few && addsUp (s .offset) (s .«open») ≡ true = and-right (isSettled (s .parser)) (few && addsUp (s .offset) (s .«open»)) k in
       let l : readOf s + refusedBytes (s .parser .error .number) ≤ limit =
       leb-true (readOf s + refusedBytes (s .parser .error .number)) limit (and-left few (addsUp (s .offset) (s .«open»)) q)
       in
       let e : addsUp (s .offset) (s .«open») ≡ true = and-right few (addsUp (s .offset) (s .«open»)) q in
       record {
-        parser = and-left (soundParser (s .parser)) (few && addsUp (s .offset) (s .«open»)) t;
+        parser = and-left (soundParser (s .parser)) (isSettled (s .parser) && (few && addsUp (s .offset) (s .«open»))) t;
+        settled = and-left (isSettled (s .parser)) (few && addsUp (s .offset) (s .«open»)) k;
         sums = e;
         «open» = omega (arith, adds-low (s .offset) (s .«open») e);
         read = omega arith;
         all = l;
       }
 
-  pub from-facts : soundParser (s .parser) ≡ true → addsUp (s .offset) (s .«open») ≡ true → readOf s + refusedBytes (s .parser .error .number) ≤ limit
-      → soundListing s ≡ true
+  from-facts : soundParser (s .parser) ≡ true → isSettled (s .parser) ≡ true → addsUp (s .offset) (s .«open») ≡ true
+      → readOf s + refusedBytes (s .parser .error .number) ≤ limit → soundListing s ≡ true
   unfolding soundListing
-  from-facts p e l = λ j. p j && (le-leb (readOf s + refusedBytes (s .parser .error .number)) limit l j && e j)
+  from-facts p k e l = λ j. p j && (k j && (le-leb (readOf s + refusedBytes (s .parser .error .number)) limit l j && e j))
 
 -- ---- open
 module _ (o code size : ℕ) (payload : List ℕ) where
@@ -129,13 +144,13 @@ module _ (offset o : ℕ) (a : Pushed) where
   abbrev from : Listing
   from = listingOf (a .parser) offset o
 
-  pub record-line : (payload d : List ℕ) {e : List ℕ} (at code p : ℕ) {written : ℕ} (x : Refusal) → at + 126 ≤ length d
-      → code ≡ codeOf (a .«record» .«record_type») → p ≡ openAfter o code (a .«record» .length) payload → x ≡ none
+  pub record-line : (payload d : List ℕ) {e : List ℕ} (at code p : ℕ) {written : ℕ} (x : Refusal) (u : RecordParser) → at + 126 ≤ length d
+      → code ≡ codeOf (a .«record» .«record_type») → p ≡ openAfter o code (a .«record» .length) payload → x ≡ none → u ≡ settled (a .parser)
       → placed written e ≡ putText d at (line offset code (a .«record» .epoch .0) (a .«record» .sequence .0) (a .«record» .length) p)
-      → (listed x (a .consumed) written (listingOf (a .parser) (offset + (44 + a .«record» .length)) p) ≡ recordListed from a payload at)
+      → (listed x (a .consumed) written (listingOf u (offset + (44 + a .«record» .length)) p) ≡ recordListed from a payload at)
       × (e ≡ overlay d at (lineOf from (a .«record») payload))
   unfolding recordListed lineOf
-  record-line payload d {e} at code p {written} x room ec ep ex h =
+  record-line payload d {e} at code p {written} x u room ec ep ex eu h =
       let text : List ℕ = line offset code (a .«record» .epoch .0) (a .«record» .sequence .0) (a .«record» .length) p in
       let w : placed written e ≡ placed (at + length text) (overlay d at text) = text-puts d at text written e room h in
       let q : p ≡ opens from (a .«record») payload = ep ∙ ap (λ (k : ℕ). openAfter o k (a .«record» .length) payload) ec in
@@ -143,7 +158,7 @@ module _ (offset o : ℕ) (a : Pushed) where
       λ j. line offset (ec j) (a .«record» .epoch .0) (a .«record» .sequence .0) (a .«record» .length) (q j)
       in (
         λ j. listed (ex j) (a .consumed) ((ap (λ (y : Placed). y .next) w ∙ ap (λ (y : List ℕ). at + length y) l) j)
-            (listingOf (a .parser) (offset + (44 + a .«record» .length)) (q j)),
+            (listingOf (eu j) (offset + (44 + a .«record» .length)) (q j)),
         ap (λ (y : Placed). y .output) w ∙ ap (overlay d at) l,
       )
 
@@ -158,10 +173,10 @@ module _ (s : Listing) (piece stage output : List ℕ) (at : ℕ) (a : Pushed) (
       ∙ sym
       (ap (λ (b : Bool). pick b
       (outcome (recordListed s a (payloadAt (a .place) (a .«record» .length) piece after) at) after (overlay output at (lineOf s (a .«record») (payloadAt (a .place) (a .«record» .length) piece after))))
-      (outcome (listed (a .refusal) (a .consumed) at (listingOf (a .parser) (s .offset) (s .«open»))) after output)) t)
+      (outcome (listed (a .refusal) (a .consumed) at (listingOf (settled (a .parser)) (s .offset) (s .«open»))) after output)) t)
       ∙ ap (pushed s piece output at) e
 
-  pub step-none : (r : Listed) → a .complete ≡ false → r ≡ listed (a .refusal) (a .consumed) at (listingOf (a .parser) (s .offset) (s .«open»))
+  pub step-none : (r : Listed) → a .complete ≡ false → r ≡ listed (a .refusal) (a .consumed) at (listingOf (settled (a .parser)) (s .offset) (s .«open»))
       → outcome r after output ≡ stepOf s piece stage output at
   unfolding pushed
   step-none r t w =
@@ -169,7 +184,7 @@ module _ (s : Listing) (piece stage output : List ℕ) (at : ℕ) (a : Pushed) (
       ∙ sym
       (ap (λ (b : Bool). pick b
       (outcome (recordListed s a (payloadAt (a .place) (a .«record» .length) piece after) at) after (overlay output at (lineOf s (a .«record») (payloadAt (a .place) (a .«record» .length) piece after))))
-      (outcome (listed (a .refusal) (a .consumed) at (listingOf (a .parser) (s .offset) (s .«open»))) after output)) t)
+      (outcome (listed (a .refusal) (a .consumed) at (listingOf (settled (a .parser)) (s .offset) (s .«open»))) after output)) t)
       ∙ ap (pushed s piece output at) e
 
   pushed-is : push (s .parser) (length stage) (heldIn (s .parser) stage) piece .answer ≡ a
@@ -202,6 +217,16 @@ module _ (s : Listing) (piece stage output : List ℕ) (at : ℕ) (t : soundList
   k : Came (bufferedOf (s .parser)) (refusedBytes (s .parser .error .number)) (length piece) a
   k = came (s .parser) (length stage) (heldIn (s .parser) stage) piece (facts s t .parser)
 
+  -- the parser that is kept
+  kept : isSettled (settled (a .parser)) ≡ true
+  kept = let f = facts s t in settles (s .parser) (length stage) (heldIn (s .parser) stage) piece (f .parser) (f .settled)
+
+  same-held : bufferedOf (settled (a .parser)) ≡ bufferedOf (a .parser)
+  same-held = settled-held (a .parser) (k .sound)
+
+  same-refused : refusedBytes (settled (a .parser) .error .number) ≡ refusedBytes (a .parser .error .number)
+  same-refused = ap refusedBytes (settled-number (a .parser))
+
   pub stepped : Stepped s (length piece) (stepOf s piece stage output at .listed)
   unfolding pushOf pushed recordListed
   stepped =
@@ -211,20 +236,24 @@ module _ (s : Listing) (piece stage output : List ℕ) (at : ℕ) (t : soundList
       (λ c.
       let w : bufferedOf (s .parser) + a .consumed ≡ 44 + a .«record» .length = b .whole c in
       let z : bufferedOf (a .parser) + refusedBytes (a .parser .error .number) ≡ 0 = b .empty c in
+      let g = same-held in
+      let i = same-refused in
       record {
         within = b .within;
         some = λ _. b .some (b .clear c);
         nothing = λ _. refl;
-        sound = from-facts _ (b .sound) (keeps (s .offset) (s .«open») (codeOf (a .«record» .«record_type»)) (a .«record» .length) y (b .sized c) (f .sums)) (omega (arith, b .within));
+        sound = from-facts _ (settled-sound (a .parser) (b .sound)) kept (keeps (s .offset) (s .«open») (codeOf (a .«record» .«record_type»)) (a .«record» .length) y (b .sized c) (f .sums)) (omega (arith, b .within));
         read = omega arith;
       })
       (λ c.
       let z : bufferedOf (a .parser) ≤ bufferedOf (s .parser) + a .consumed = b .kept c in
+      let g = same-held in
+      let i = same-refused in
       record {
         within = b .within;
         some = b .some;
         nothing = b .nothing;
-        sound = from-facts _ (b .sound) (f .sums)
+        sound = from-facts _ (settled-sound (a .parser) (b .sound)) kept (f .sums)
             (omega (arith, b .below (limit - s .offset) c (omega (arith, f .all)) (omega arith), f .read));
         read = omega arith;
       })

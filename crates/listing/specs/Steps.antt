@@ -2,17 +2,18 @@
 use Prim.Native.Nat.{ℕ, zero, suc, _+_, _-_}
 use mathlib.Core.Bool.{Bool, _&&_}
 use mathlib.Core.List.{List, [], _∷_}
-use lib.ListN.{length, take, drop}
-use lib.Dec.{leb, ltb}
+use lib.ListN.{length, take, drop, replicate}
+use lib.Dec.{eqb, leb, ltb}
 use Rattle.wire.specs.Bytes.{overlay}
 use Rattle.wire.specs.Refusals.{pick, refusal, none, first, passes}
 use Rattle.protocol.specs.Outer as outer
 use Rattle.protocol.specs.Outer.{maxPayload, write}
 use Rattle.wire.specs.declared.refusal.Refusal.{Refusal}
 use Rattle.types.specs.Types.{codeOf}
+use Rattle.record.specs.Record.{allZero}
 use Rattle.record.specs.declared.record.Record.{Record}
 use Rattle.parser.specs.Push as parser
-use Rattle.parser.specs.Push.{soundParser, pushOf, bufferedOf, payloadAt}
+use Rattle.parser.specs.Push.{parserOf, soundParser, pushOf, bufferedOf, payloadAt}
 use Rattle.parser.specs.declared.parser.RecordParser.{RecordParser}
 use Rattle.parser.specs.declared.parser.Pushed.{Pushed}
 use Rattle.reach.specs.Reach.{limit, addsUp, refusedBytes}
@@ -32,10 +33,28 @@ fresh = listingOf parser.fresh 0 0
 abbrev pub readOf : Listing → ℕ
 readOf s = s .offset + bufferedOf (s .parser)
 
--- a sound parser, at most 2^62 bytes read, and an offset and open that whole records leave
+-- ---- what a listing keeps of its parser
+-- between records no byte of a header, and of the refusal that ended the capture its number alone
+abbrev pub idle : ℕ → RecordParser
+idle number = parserOf (replicate 44 0) 0 0 (refusal number 0 0 0)
+
+unfoldable pub settled : RecordParser → RecordParser
+settled p = pick (eqb (p .«header_len») 0) (idle (p .error .number)) p
+
+-- so what has not come of a header is 0, and so is all of a refusal but its number
+unfoldable pub numberOnly : Refusal → Bool
+numberOnly r = eqb (r .a) 0 && (eqb (r .b) 0 && (eqb (r .c) 0 && (allZero (r .expected) && allZero (r .actual))))
+
+unfoldable pub isSettled : RecordParser → Bool
+isSettled p = numberOnly (p .error) && allZero (drop (p .«header_len») (p .header))
+
+-- ---- soundness
+-- a sound parser of which no more is kept, at most 2^62 bytes read, and an offset and open that whole records leave: exactly what calls
+-- can leave (`NeverUnsound` and `SoundIsReached` of the claims)
 unfoldable pub soundListing : Listing → Bool
 soundListing s =
-    soundParser (s .parser) && (leb (readOf s + refusedBytes (s .parser .error .number)) limit && addsUp (s .offset) (s .«open»))
+    soundParser (s .parser)
+    && (isSettled (s .parser) && (leb (readOf s + refusedBytes (s .parser .error .number)) limit && addsUp (s .offset) (s .«open»)))
 
 -- ---- what a call answers
 abbrev pub listed : Refusal → ℕ → ℕ → Listing → Listed
@@ -63,7 +82,7 @@ lineOf s r payload = line (s .offset) (codeOf (r .«record_type»)) (r .epoch .0
 unfoldable pub recordListed : Listing → Pushed → List ℕ → ℕ → Listed
 recordListed s a payload at =
     listed none (a .consumed) (at + length (lineOf s (a .«record») payload))
-    (listingOf (a .parser) (s .offset + (44 + a .«record» .length)) (opens s (a .«record») payload))
+    (listingOf (settled (a .parser)) (s .offset + (44 + a .«record» .length)) (opens s (a .«record») payload))
 
 -- a push answers: the record's line, or no line
 unfoldable pub pushed : Listing → List ℕ → List ℕ → ℕ → parser.Outcome → Outcome
@@ -72,7 +91,7 @@ pushed s piece output at o =
     let payload : List ℕ = payloadAt (a .place) (a .«record» .length) piece (o .stage) in
     pick (a .complete)
     (outcome (recordListed s a payload at) (o .stage) (overlay output at (lineOf s (a .«record») payload)))
-    (outcome (listed (a .refusal) (a .consumed) at (listingOf (a .parser) (s .offset) (s .«open»))) (o .stage) output)
+    (outcome (listed (a .refusal) (a .consumed) at (listingOf (settled (a .parser)) (s .offset) (s .«open»))) (o .stage) output)
 
 abbrev pub stepOf : Listing → List ℕ → List ℕ → List ℕ → ℕ → Outcome
 stepOf s piece stage output at = pushed s piece output at (pushOf (s .parser) piece stage)

@@ -29,8 +29,8 @@ use Rattle.listing.specs.Listing.{openAfter, listFrom, linesFrom, listing}
 use Rattle.listing.specs.Steps.{fresh, readOf, soundListing, listed, Outcome, outcome, stepOf, soundRow, roomRow, lines, listRows, readable, listOf, namesOf, endLine, endOf}
 use Rattle.listing.specs.Calls.{Ended, all-taken, refused, full}
 use Rattle.listing.specs.declared.listing.Listing.{Listing}
-use Rattle.listing.proofs.Cases.{facts, from-facts, Stepped, stepped}
-use Rattle.listing_claims.specs.Claims.{joined, text, OutputIsListing, NeverUnsound, ReachedIsSound, TakesSome, ReadingEnds, ListingClaims}
+use Rattle.listing.proofs.Cases.{facts, Stepped, stepped}
+use Rattle.listing_claims.specs.Claims.{joined, text, OutputIsListing, NeverUnsound, TakesSome, ReadingEnds, ListingClaims}
 use Rattle.listing_claims.specs.Example.{capture, printed}
 use Rattle.listing_claims.proofs.Scanned.{unfinished-lines}
 use Rattle.listing_claims.proofs.Futures.{future, future-on, future-off, Good, held-length}
@@ -100,14 +100,6 @@ output input left stage after front back t texts room lf lb c e =
 sound : NeverUnsound
 sound input left stage after t texts room c = calls-write c (first-good stage room) .1 .sound
 
-only-reached : ReachedIsSound
-only-reached s stage room p r =
-    let f = facts (r .last) (sound (r .input) (r .left) stage (r .after) (r .last) (r .texts) room (r .calls)) in
-    let e : readOf (r .last) + refusedBytes (r .last .parser .error .number) ≡ readOf s + refusedBytes (s .parser .error .number) =
-    λ i. r .offset i + r .held i + refusedBytes (r .number i)
-    in
-    from-facts s p (ap₂ addsUp (sym (r .offset)) (sym (r .«open»)) ∙ f .sums) (omega (arith, f .all))
-
 -- what was taken stays taken
 lines-grow : (n : ℕ) (s : Listing) (piece stage o : List ℕ) (taken at : ℕ) → taken ≤ lines n s piece stage o taken at .listed .taken
 unfolding lines
@@ -162,4 +154,4 @@ unfolding listing capture printed names listFrom line ending openAfter number de
 example = refl
 
 pub claims : ListingClaims
-claims = record { output = output; sound = sound; reached = reached; only-reached = only-reached; some = some; ends = ends; example = example }
+claims = record { output = output; sound = sound; reached = reached; some = some; ends = ends; example = example }

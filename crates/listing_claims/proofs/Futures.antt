@@ -8,17 +8,21 @@ use mathlib.Core.List.{List, [], _++_, append-assoc}
 use native.Mathlib.Omega.{arith}
 use lib.ListN.{length, take, drop, length-append, length-take, take-append-drop}
 use lib.Seq.{take-append-add, drop-length}
+use lib.Dec.{eqb}
+use borrow.Author.Tests.{eqb-true}
 use Rattle.wire.specs.Bytes.{overlay}
 use Rattle.wire.specs.Refusals.{pick, passes}
 use Rattle.wire.specs.Header.{typeOf, epochOf, sequenceOf, lengthOf}
 use Rattle.wire.specs.declared.refusal.Refusal.{Refusal}
+use Rattle.wire.proofs.Rows.{picked}
 use Rattle.types.specs.Types.{codeOf}
 use Rattle.record.specs.Record.{recordWith}
 use Rattle.record.specs.declared.record.Record.{Record}
-use Rattle.parser.specs.Push.{Push, push, headWith, pushStage, pushOf, heldIn, bufferedOf, payloadAt}
+use Rattle.parser.specs.Push.{soundParser, Push, push, headWith, pushStage, pushOf, heldIn, bufferedOf, payloadAt}
 use Rattle.parser.specs.declared.parser.RecordParser.{RecordParser}
 use Rattle.parser.specs.declared.parser.Pushed.{Pushed}
 use Rattle.parser.proofs.Parts.{overlay-nothing}
+use Rattle.parser.proofs.Cases.{sound-empty}
 use Rattle.claims.specs.Reading.{Ready}
 use Rattle.claims.proofs.Scans.{Scan, unfinished, whole, refused, scan}
 use Rattle.claims.proofs.Records.{code-is}
@@ -31,8 +35,10 @@ use Rattle.decimal.proofs.Digits.{number-length}
 use Rattle.lines.specs.Lines.{line, ending}
 use Rattle.reach.specs.Reach.{limit}
 use Rattle.listing.specs.Listing.{openAfter, linesFrom}
-use Rattle.listing.specs.Steps.{listingOf, readOf, soundListing, listed, Outcome, outcome, opens, lineOf, recordListed, pushed, stepOf}
+use Rattle.listing.specs.Steps.{listingOf, readOf, settled, soundListing, listed, Outcome, outcome, opens, lineOf, recordListed, pushed, stepOf}
 use Rattle.listing.specs.declared.listing.Listing.{Listing}
+use Rattle.listing.proofs.Counts.{came}
+use Rattle.listing.proofs.Settled.{settled-number, settled-sound}
 use Rattle.listing.proofs.Cases.{facts, Stepped, stepped}
 use Rattle.listing_claims.proofs.Scanned.{refused-lines, whole-lines}
 
@@ -84,6 +90,36 @@ held-length p stage r =
     let e : length (take (p .«header_len») (p .header)) ≡ p .«header_len» = length-take (p .«header_len») (p .header) ∙ omega (arith, r .size) in
     length-append (take (p .«header_len») (p .header)) (heldIn p stage) ∙ ap₂ (λ (i j : ℕ). i + j) e (r .count)
 
+-- ---- the parser that is kept: what it holds and what is still to be written stay
+module _ (p : RecordParser) (sound : soundParser p ≡ true) where
+  none-held : eqb (p .«header_len») 0 ≡ true → (stage : List ℕ) → bytesIn p stage ≡ []
+  none-held z stage =
+      let e : p .«header_len» ≡ 0 = eqb-true (p .«header_len») 0 z in
+      let k : p .«payload_len» ≡ 0 = sound-empty p true (sym sound) refl (λ q. omega arith) in
+      λ i. take (e i) (p .header) ++ take (k i) stage
+
+  future-settled : (offset o : ℕ) (stage l : List ℕ) → future (listingOf (settled p) offset o) stage l ≡ future (listingOf p offset o) stage l
+  unfolding settled future
+  future-settled offset o stage l =
+      picked (λ (x : RecordParser). future (listingOf x offset o) stage l ≡ future (listingOf p offset o) stage l) (eqb (p .«header_len») 0)
+      (λ z. ap (λ (x : List ℕ). pick (passes (p .error)) (linesFrom offset o (take (limit - offset) (x ++ l))) (ending offset (p .error .number) 0)) (sym (none-held z stage)))
+      (λ _. refl)
+
+pub settled-passes : (p : RecordParser) → passes (settled p .error) ≡ passes (p .error)
+settled-passes p = ap (λ (n : ℕ). eqb n 0) (settled-number p)
+
+module _ (p : RecordParser) (stage : List ℕ) (r : Ready p (heldIn p stage)) where
+  settled-size : length (settled p .header) ≡ 44
+  unfolding settled
+  settled-size = picked (λ (x : RecordParser). length (x .header) ≡ 44) (eqb (p .«header_len») 0) (λ _. refl) (λ _. r .size)
+
+  settled-count : length (heldIn (settled p) stage) ≡ settled p .«payload_len»
+  unfolding settled
+  settled-count = picked (λ (x : RecordParser). length (heldIn x stage) ≡ x .«payload_len») (eqb (p .«header_len») 0) (λ _. refl) (λ _. r .count)
+
+  settled-ready : Ready (settled p) (heldIn (settled p) stage)
+  settled-ready = record { sound = settled-sound p (r .sound); clear = settled-passes p ∙ r .clear; size = settled-size; count = settled-count }
+
 module _ (s : Listing) (stage piece output : List ℕ) (at : ℕ) (good : Good s stage) (on : passes (s .parser .error) ≡ true) (few : readOf s + length piece ≤ limit)
     (room : at + 126 ≤ length output) where
   placed : Placed (s .parser) stage
@@ -108,11 +144,14 @@ module _ (s : Listing) (stage piece output : List ℕ) (at : ℕ) (good : Good s
   lined = outcome (recordListed s a payload at) after (overlay output at (lineOf s (a .«record») payload))
 
   abbrev quiet : Outcome
-  quiet = outcome (listed (a .refusal) (a .consumed) at (listingOf (a .parser) (s .offset) (s .«open»))) after output
+  quiet = outcome (listed (a .refusal) (a .consumed) at (listingOf (settled (a .parser)) (s .offset) (s .«open»))) after output
 
   pub step-is : (t : Bool) → a .complete ≡ t → stepOf s piece stage output at ≡ pick t lined quiet
   unfolding pushed pushOf
   step-is t e = ap (λ (x : Bool). pick x lined quiet) e
+
+  push-sound : soundParser (a .parser) ≡ true
+  push-sound = came (s .parser) (length stage) (heldIn (s .parser) stage) piece (facts s (good .sound) .parser) .sound
 
   sound-is : (o : Outcome) → stepOf s piece stage output at ≡ o → Stepped s (length piece) (o .listed)
   sound-is o e = subst (λ (x : Outcome). Stepped s (length piece) (x .listed)) e (stepped s piece stage output at (good .sound) few)
@@ -136,10 +175,11 @@ module _ (s : Listing) (stage piece output : List ℕ) (at : ℕ) (good : Good s
       (record {
         text = [];
         puts = puts-none output at (omega arith);
-        good = record { sound = w .sound; room = r .room; ready = λ _. r .ready };
-        clear = λ _. t .ready .clear;
+        good = record { sound = w .sound; room = r .room; ready = λ _. settled-ready (a .parser) after (r .ready) };
+        clear = λ _. settled-passes (a .parser) ∙ t .ready .clear;
         law = λ rest.
-            future-on (listingOf (a .parser) (s .offset) (s .«open»)) after (drop (a .consumed) piece ++ rest) (t .ready .clear)
+            future-settled (a .parser) push-sound (s .offset) (s .«open») after (drop (a .consumed) piece ++ rest)
+            ∙ future-on (listingOf (a .parser) (s .offset) (s .«open»)) after (drop (a .consumed) piece ++ rest) (t .ready .clear)
             ∙ ap (λ (x : List ℕ). linesFrom (s .offset) (s .«open») (take (limit - s .offset) x))
             ((λ i. j i ++ (d i ++ rest)) ∙ append-assoc b piece rest)
             ∙ sym (future-on s stage (piece ++ rest) on);
@@ -159,10 +199,11 @@ module _ (s : Listing) (stage piece output : List ℕ) (at : ℕ) (good : Good s
       (record {
         text = [];
         puts = puts-none output at (omega arith);
-        good = record { sound = w .sound; room = omega (arith, staged .same-length, good .room); ready = λ q. true-not-false (sym q ∙ off) };
+        good = record { sound = w .sound; room = omega (arith, staged .same-length, good .room); ready = λ q. true-not-false (sym q ∙ settled-passes (a .parser) ∙ off) };
         clear = λ q. true-not-false (sym q ∙ ap (λ (y : Refusal). passes y) (t .refusal) ∙ t .numbered);
         law = λ rest.
-            future-off (listingOf (a .parser) (s .offset) (s .«open»)) after (drop (a .consumed) piece ++ rest) off
+            future-settled (a .parser) push-sound (s .offset) (s .«open») after (drop (a .consumed) piece ++ rest)
+            ∙ future-off (listingOf (a .parser) (s .offset) (s .«open»)) after (drop (a .consumed) piece ++ rest) off
             ∙ ap (λ (y : Refusal). ending (s .offset) (y .number) 0) x
             ∙ sym (refused-lines (s .offset) (s .«open») (b ++ piece) (take (limit - s .offset - length (b ++ piece)) rest) r v)
             ∙ ap (linesFrom (s .offset) (s .«open»))
@@ -194,7 +235,7 @@ module _ (s : Listing) (stage piece output : List ℕ) (at : ℕ) (good : Good s
         ∙ ap (λ (k : ℕ). line (s .offset) k (epochOf h) (sequenceOf h) (lengthOf h) (openAfter (s .«open») (typeOf h) (lengthOf h) y)) (code-is h (t .checked))
 
     abbrev next : Listing
-    next = listingOf (a .parser) (s .offset + (44 + a .«record» .length)) (opens s (a .«record») payload)
+    next = listingOf (settled (a .parser)) (s .offset + (44 + a .«record» .length)) (opens s (a .«record») payload)
 
     bytes-are : (rest : List ℕ) → b ++ (piece ++ rest) ≡ (h ++ y) ++ (drop (a .consumed) piece ++ rest)
     bytes-are rest =
@@ -211,7 +252,8 @@ module _ (s : Listing) (stage piece output : List ℕ) (at : ℕ) (good : Good s
         let p : ℕ = openAfter (s .«open») (typeOf h) (lengthOf h) y in
         let k : length (h ++ y) ≡ 44 + lengthOf h = length-append h y ∙ omega (arith, t .size, t .full) in
         let f : future next after c ≡ linesFrom (s .offset + (44 + lengthOf h)) p (take (limit - (s .offset + (44 + lengthOf h))) c) =
-        future-on next after c (completed-ready t .clear)
+        future-settled (a .parser) push-sound (s .offset + (44 + a .«record» .length)) (opens s (a .«record») payload) after c
+        ∙ future-on (listingOf (a .parser) (s .offset + (44 + a .«record» .length)) (opens s (a .«record») payload)) after c (completed-ready t .clear)
         ∙ (λ i. linesFrom (s .offset + (44 + z i)) (open-is i) (take (limit - (s .offset + (44 + z i))) ((bytes-next (s .parser) piece stage placed ∙ completed-empty t) i ++ c)))
         in
         (λ i. line-is i ++ f i)
@@ -231,8 +273,8 @@ module _ (s : Listing) (stage piece output : List ℕ) (at : ℕ) (good : Good s
         (record {
           text = lineOf s (a .«record») payload;
           puts = record { next = refl; within = omega arith; bytes = refl };
-          good = record { sound = w .sound; room = r .room; ready = λ _. r .ready };
-          clear = λ _. completed-ready t .clear;
+          good = record { sound = w .sound; room = r .room; ready = λ _. settled-ready (a .parser) after (r .ready) };
+          clear = λ _. settled-passes (a .parser) ∙ completed-ready t .clear;
           law = λ rest. next-lines rest (let f = facts next (w .sound) in omega (arith, f .read));
         })
 

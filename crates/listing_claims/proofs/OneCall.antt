@@ -7,28 +7,28 @@ use mathlib.Core.List.{List, [], _++_, append-assoc}
 use native.Mathlib.Omega.{arith}
 use lib.ListN.{length, take, drop, length-append, length-take}
 use lib.Seq.{take-all, drop-length}
-use borrow.Author.Tests.{le-leb, eqb-true}
+use borrow.Author.Tests.{le-leb}
 use Rattle.wire.specs.Refusals.{pick, none, first, passes}
 use Rattle.wire.specs.declared.refusal.Refusal.{Refusal}
 use Rattle.wire.proofs.Rows.{pass-all}
 use Rattle.types.specs.Types.{codeOf}
 use Rattle.record.specs.Record.{recordOf}
 use Rattle.record.specs.declared.record.Record.{Record}
-use Rattle.parser.specs.Push.{Push, push, headWith, pushStage, heldIn, bufferedOf}
+use Rattle.parser.specs.Push as parser
+use Rattle.parser.specs.Push.{parserOf, Push, waiting, push, headWith, pushStage, heldIn, bufferedOf}
 use Rattle.parser.specs.declared.parser.RecordParser.{RecordParser}
 use Rattle.parser.specs.declared.parser.Pushed.{Pushed}
-use Rattle.claims.proofs.Scans.{Scan, unfinished, whole, refused, scan}
-use Rattle.claims.proofs.Outcomes.{Pending, Completed, Refused, Matches}
-use Rattle.claims.proofs.Stream.{completed-ready, completed-empty}
-use Rattle.claims.proofs.Feeds.{Placed, bytesIn, matches, placed-next, bytes-next}
+use Rattle.claims.proofs.Scans.{Scan, whole, refused, scan}
+use Rattle.claims.proofs.Outcomes.{Completed, Refused, Matches}
+use Rattle.claims.proofs.Feeds.{Placed, bytesIn, matches}
 use Rattle.lines.specs.Lines.{lineRoom}
 use Rattle.reach.specs.Reach.{limit}
 use Rattle.listing.specs.Listing.{openAfter}
-use Rattle.listing.specs.Steps.{readOf, listed, Outcome, outcome, recordListed, stepOf, lines, listRows, readable, listOf}
+use Rattle.listing.specs.Steps.{listingOf, readOf, idle, settled, listed, Outcome, outcome, recordListed, stepOf, lines, listRows, readable, listOf}
 use Rattle.listing.specs.Calls.{Calls, stop, call}
 use Rattle.listing.specs.declared.listing.Listing.{Listing}
 use Rattle.listing.proofs.Lines.{lines-end, lines-step}
-use Rattle.listing_claims.proofs.Futures.{Good, Writes, writes, held-length, step-is, payload-is}
+use Rattle.listing_claims.proofs.Futures.{Good, Writes, writes, step-is, payload-is}
 
 -- ---- calls one after the other
 -- more bytes to come change nothing
@@ -48,11 +48,17 @@ calls-then (call piece rest output l c) d = call piece rest output l (calls-then
 -- between records
 pub record At (s : Listing) (stage : List ℕ) : Type 0 where
   pub good : Good s stage
-  pub clear : passes (s .parser .error) ≡ true
-  pub empty : bytesIn (s .parser) stage ≡ []
+  pub parser : s .parser ≡ parser.fresh
 
-pub at-held : {s : Listing} {stage : List ℕ} → At s stage → bufferedOf (s .parser) ≡ 0
-at-held {s} {stage} e = sym (held-length (s .parser) stage (e .good .ready (e .clear))) ∙ ap length (e .empty)
+module _ {s : Listing} {stage : List ℕ} (e : At s stage) where
+  clear : passes (s .parser .error) ≡ true
+  clear = ap (λ (p : RecordParser). passes (p .error)) (e .parser)
+
+  empty : bytesIn (s .parser) stage ≡ []
+  empty = ap (λ (p : RecordParser). bytesIn p stage) (e .parser)
+
+  at-held : bufferedOf (s .parser) ≡ 0
+  at-held = ap (λ (p : RecordParser). bufferedOf p) (e .parser)
 
 -- what a call answers after one push
 abbrev after-one : Refusal → Outcome → Outcome
@@ -69,7 +75,7 @@ module _ (s : Listing) (stage piece output : List ℕ) (e : At s stage) (few : s
   unfolding listOf
   call-is =
       ap (λ (t : Bool). pick t (lines (length (readable s piece)) s (readable s piece) stage output 0 0) (outcome (listed (first (listRows s stage output)) 0 0 s) stage output))
-      (pass-all (listRows s stage output) (e .good .sound, (le-leb 65536 (length stage) (e .good .room), (le-leb 126 (length output) room, (e .clear, tt)))))
+      (pass-all (listRows s stage output) (e .good .sound, (le-leb 65536 (length stage) (e .good .room), (le-leb 126 (length output) room, (clear e, tt)))))
       ∙ ap (λ (x : List ℕ). lines (length x) s x stage output 0 0) (take-all (limit - readOf s) piece (let z = few-read in omega arith))
 
   one-on : passes (o .listed .refusal) ≡ true → o .listed .taken ≡ length piece → listOf s piece stage output ≡ after-one none o
@@ -93,7 +99,7 @@ module _ (s : Listing) (stage piece output : List ℕ) (e : At s stage) (few : s
 
   -- ---- what the push does
   placed : Placed (s .parser) stage
-  placed = record { ready = e .good .ready (e .clear); room = e .good .room }
+  placed = record { ready = e .good .ready (clear e); room = e .good .room }
 
   abbrev u : Push
   u = push (s .parser) (length stage) (heldIn (s .parser) stage) piece
@@ -111,10 +117,10 @@ module _ (s : Listing) (stage piece output : List ℕ) (e : At s stage) (few : s
   after = pushStage (s .parser) piece stage
 
   told : (v : Scan) → scan piece ≡ v → Matches b piece H u v
-  told v q = subst (Matches b piece H u) (ap (λ (x : List ℕ). scan (x ++ piece)) (e .empty) ∙ q) (matches (s .parser) piece stage placed)
+  told v q = subst (Matches b piece H u) (ap (λ (x : List ℕ). scan (x ++ piece)) (empty e) ∙ q) (matches (s .parser) piece stage placed)
 
   wrote : Writes s stage piece output 0 o
-  wrote = writes s stage piece output 0 (e .good) (e .clear) few-read room
+  wrote = writes s stage piece output 0 (e .good) (clear e) few-read room
 
   -- a whole record
   pub record Took (x : Outcome) (size p : ℕ) : Type 0 where
@@ -125,28 +131,27 @@ module _ (s : Listing) (stage piece output : List ℕ) (e : At s stage) (few : s
 
   pub took : (h y : List ℕ) (r : Record) → scan piece ≡ whole h y → length piece ≡ 44 + length y → recordOf h ≡ r
       → Took (listOf s piece stage output) (r .length) (openAfter (s .«open») (codeOf (r .«record_type»)) (r .length) y)
-  unfolding recordListed
+  unfolding recordListed settled
   took h y r q l w =
       let t : Completed b piece H u h y = told (whole h y) q in
       let f : a .«record» ≡ r = t .fields ∙ w in
       let k : length (take (a .consumed) piece) ≡ 44 + length y =
-      ap (λ (x : List ℕ). length (x ++ take (a .consumed) piece)) (sym (e .empty)) ∙ ap length (t .joins) ∙ length-append h y ∙ omega (arith, t .size)
+      ap (λ (x : List ℕ). length (x ++ take (a .consumed) piece)) (sym (empty e)) ∙ ap length (t .joins) ∙ length-append h y ∙ omega (arith, t .size)
       in
       let n : a .consumed ≡ length piece = omega (arith, length-take (a .consumed) piece, t .within) in
-      let m = step-is s stage piece output 0 (e .good) (e .clear) few-read room true (t .complete) in
+      let m = step-is s stage piece output 0 (e .good) (clear e) few-read room true (t .complete) in
       let c : listOf s piece stage output ≡ after-one none o =
       one-on (ap (λ (x : Outcome). passes (x .listed .refusal)) m) (ap (λ (x : Outcome). x .listed .taken) m ∙ n)
       in
       let d = c ∙ ap (after-one none) m in
-      let y' = payload-is s stage piece output 0 (e .good) (e .clear) few-read room h y t in
+      let y' = payload-is s stage piece output 0 (e .good) (clear e) few-read room h y t in
       record {
         all = ap (λ (x : Outcome). drop (x .listed .taken) piece) d ∙ dropped (a .consumed) n;
         at =
             subst (λ (x : Outcome). At (x .listed .listing) (x .stage)) (sym c)
             (record {
               good = wrote .good;
-              clear = ap (λ (x : Outcome). passes (x .listed .listing .parser .error)) m ∙ completed-ready t .clear;
-              empty = ap (λ (x : Outcome). bytesIn (x .listed .listing .parser) (x .stage)) m ∙ bytes-next (s .parser) piece stage placed ∙ completed-empty t;
+              parser = ap (λ (x : Outcome). x .listed .listing .parser) m ∙ ap settled (t .parser);
             });
         offset = ap (λ (x : Outcome). x .listed .listing .offset) d ∙ ap (λ (x : Record). s .offset + (44 + x .length)) f;
         «open» =
@@ -154,45 +159,29 @@ module _ (s : Listing) (stage piece output : List ℕ) (e : At s stage) (few : s
             ∙ (λ j. openAfter (s .«open») (codeOf (f j .«record_type»)) (f j .length) (y' j));
       }
 
-  -- the first part of a record, or one that is refused
-  pub record Left (x : Outcome) (n number : ℕ) : Type 0 where
-    pub offset : x .listed .listing .offset ≡ s .offset
-    pub «open» : x .listed .listing .«open» ≡ s .«open»
-    pub held : bufferedOf (x .listed .listing .parser) ≡ n
-    pub error : x .listed .listing .parser .error .number ≡ number
-
-  pub waits : scan piece ≡ unfinished → (drop (listOf s piece stage output .listed .taken) piece ≡ []) × Left (listOf s piece stage output) (length piece) 0
-  waits q =
-      let t : Pending b piece H u = told unfinished q in
-      let m = step-is s stage piece output 0 (e .good) (e .clear) few-read room false (t .complete) in
+  -- the first part of a record: the push waits for more
+  pub waits : (h : List ℕ) (n k : ℕ) → push parser.fresh (length stage) (heldIn parser.fresh stage) piece .answer ≡ waiting h n k (length piece)
+      → (drop (listOf s piece stage output .listed .taken) piece ≡ []) × (listOf s piece stage output .listed .listing ≡ listingOf (settled (parserOf h n k none)) (s .offset) (s .«open»))
+  waits h n k q =
+      let w : a ≡ waiting h n k (length piece) = ap (λ (p : RecordParser). push p (length stage) (heldIn p stage) piece .answer) (e .parser) ∙ q in
+      let m = step-is s stage piece output 0 (e .good) (clear e) few-read room false (ap (λ (x : Pushed). x .complete) w) in
+      let taken : a .consumed ≡ length piece = ap (λ (x : Pushed). x .consumed) w in
       let c : listOf s piece stage output ≡ after-one none o =
-      one-on (ap (λ (x : Outcome). passes (x .listed .refusal)) m ∙ ap (λ (x : Refusal). passes x) (t .refusal)) (ap (λ (x : Outcome). x .listed .taken) m ∙ t .taken)
+      one-on (ap (λ (x : Outcome). passes (x .listed .refusal)) m ∙ ap (λ (x : Pushed). passes (x .refusal)) w) (ap (λ (x : Outcome). x .listed .taken) m ∙ taken)
       in
-      let d = c ∙ ap (after-one none) m in
-      let r = placed-next (s .parser) piece stage placed (t .ready) in
-      let j : bytesIn (a .parser) after ≡ piece = bytes-next (s .parser) piece stage placed ∙ t .joins ∙ ap (λ (x : List ℕ). x ++ piece) (e .empty) in (
-        ap (λ (x : Outcome). drop (x .listed .taken) piece) d ∙ dropped (a .consumed) (t .taken),
-        record {
-          offset = ap (λ (x : Outcome). x .listed .listing .offset) d;
-          «open» = ap (λ (x : Outcome). x .listed .listing .«open») d;
-          held = ap (λ (x : Outcome). bufferedOf (x .listed .listing .parser)) d ∙ sym (held-length (a .parser) after (r .ready)) ∙ ap length j;
-          error = ap (λ (x : Outcome). x .listed .listing .parser .error .number) d ∙ eqb-true (a .parser .error .number) 0 (t .ready .clear);
-        },
+      let d = c ∙ ap (after-one none) m in (
+        ap (λ (x : Outcome). drop (x .listed .taken) piece) d ∙ dropped (a .consumed) taken,
+        ap (λ (x : Outcome). x .listed .listing) d ∙ ap (λ (x : Pushed). listingOf (settled (x .parser)) (s .offset) (s .«open»)) w,
       )
 
-  pub fails : (r : Refusal) → scan piece ≡ refused r → (passes (listOf s piece stage output .listed .listing .parser .error) ≡ false) × Left (listOf s piece stage output) 0 (r .number)
+  -- a record that is refused
+  pub fails : (r : Refusal) → scan piece ≡ refused r → listOf s piece stage output .listed .listing ≡ listingOf (idle (r .number)) (s .offset) (s .«open»)
+  unfolding settled
   fails r q =
       let t : Refused H u r = told (refused r) q in
-      let m = step-is s stage piece output 0 (e .good) (e .clear) few-read room false (t .complete) in
+      let m = step-is s stage piece output 0 (e .good) (clear e) few-read room false (t .complete) in
       let c : listOf s piece stage output ≡ after-one (o .listed .refusal) o =
       one-out (ap (λ (x : Outcome). passes (x .listed .refusal)) m ∙ ap (λ (x : Refusal). passes x) (t .refusal) ∙ t .numbered)
       in
-      let d = c ∙ ap (λ (x : Outcome). after-one (x .listed .refusal) x) m in (
-        ap (λ (x : Outcome). passes (x .listed .listing .parser .error)) d ∙ ap (λ (x : RecordParser). passes (x .error)) (t .parser) ∙ t .numbered,
-        record {
-          offset = ap (λ (x : Outcome). x .listed .listing .offset) d;
-          «open» = ap (λ (x : Outcome). x .listed .listing .«open») d;
-          held = ap (λ (x : Outcome). bufferedOf (x .listed .listing .parser)) d ∙ ap (λ (x : RecordParser). bufferedOf x) (t .parser);
-          error = ap (λ (x : Outcome). x .listed .listing .parser .error .number) d ∙ ap (λ (x : RecordParser). x .error .number) (t .parser);
-        },
-      )
+      ap (λ (x : Outcome). x .listed .listing) (c ∙ ap (λ (x : Outcome). after-one (x .listed .refusal) x) m)
+      ∙ ap (λ (x : RecordParser). listingOf (settled x) (s .offset) (s .«open»)) (t .parser)

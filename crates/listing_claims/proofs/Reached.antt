@@ -1,17 +1,18 @@
 -- Every sound listing is reached. Records of all zeros but for type and payload, one to a call, give each offset and open that adds up:
--- other records first, then as few DATA as carry open, or a little more of them and a CREDIT. A last call is lent the first part of a
--- DATA, or a record that is refused. Assumes nothing.
+-- other records first, then as few DATA as carry open, or a little more of them and a CREDIT. A last call is lent the bytes that the
+-- listing holds, or a record that is refused. Assumes nothing.
 use Prim.Native.Nat.{ℕ, zero, suc, _+_, _-_, _*_, _/_, _%_, _^_, _≤_, _<_}
 use mathlib.Core.Path.{_≡_, refl, sym, ap, subst, _∙_}
 use mathlib.Core.Bool.{Bool, true, _&&_, _||_}
 use mathlib.Core.List.{List, [], _∷_, _++_, append-nil}
 use native.Mathlib.Omega.{arith}
 use native.Mathlib.Decide.{decLt, ℕ-discrete}
-use lib.ListN.{length, drop, replicate, length-append, length-replicate}
+use lib.ListN.{length, take, drop, replicate, length-append, length-replicate, length-take, length-drop, take-append-drop}
+use lib.Seq.{take-at, take-all, drop-at}
 use lib.Dec.{eqb, leb, ltb}
-use borrow.Author.Tests.{le-leb, leb-true, eq-eqb, ne-eqb, eqb-true, lt-ltb, ltb-true}
-use Rattle.wire.specs.Bytes.{fromLe, toLe, Octets, end, octet}
-use Rattle.wire.specs.Refusals.{refusal, first, passes}
+use borrow.Author.Tests.{le-leb, leb-true, eq-eqb, ne-eqb, eqb-true, lt-ltb, le-ltb, ltb-true}
+use Rattle.wire.specs.Bytes.{fromLe, toLe, overlay, Octets, end, octet}
+use Rattle.wire.specs.Refusals.{pick, refusal, none, first, passes}
 use Rattle.wire.specs.Header.{magicOf, versionOf, typeOf, flagsOf, instanceOf, epochOf, sequenceOf, lengthOf, headerBytes}
 use Rattle.wire.specs.declared.refusal.Refusal.{Refusal}
 use Rattle.wire.proofs.Rows.{pass-all, picked, and-left, and-right}
@@ -21,31 +22,34 @@ use Rattle.types.specs.Types.{codeOf, lengthOk, typeAt}
 use Rattle.types.specs.declared.RecordType.{RecordType}
 use Rattle.types.specs.declared.RecordType.the-variants.{HostAttach, Reset, Ack, Data, Credit}
 use Rattle.record.specs.Record.{allZero, headerChecks, payloadChecks, recordRows, recordBytes}
-use Rattle.parser.specs.Push.{soundParser, countsOk, errorOk, bufferedOf}
+use Rattle.parser.specs.Push as parser
+use Rattle.parser.specs.Push.{parserOf, countsOk, errorOk, soundParser, Push, stopped, waiting, failed, finish, bodyTaken, pushBody, headTaken, headWith, pushHead, pushRows, push, heldIn, bufferedOf}
+use Rattle.parser.specs.declared.parser.RecordParser.{RecordParser}
+use Rattle.parser.specs.declared.parser.Place.the-variants.{Piece}
+use Rattle.parser.proofs.Cases.{held-counts, filling-counts}
 use Rattle.claims.specs.Reading.{recordFrom}
-use Rattle.claims.proofs.Octets.{octets-append, octets-zeros}
-use Rattle.claims.proofs.Records.{length-low, encoding-scans, encoding-record, encoding-length}
-use Rattle.claims.proofs.Scans.{unfinished, refused, scan, scanValue, scanBody, scanHeader, scan-short, scan-cut}
-use Rattle.claims.proofs.Outcomes as Held
-use Rattle.claims.proofs.Outcomes.{inHead, inBody, part-of}
+use Rattle.claims.proofs.Octets.{octets-take, octets-append, octets-zeros}
+use Rattle.claims.proofs.Records.{encoding-scans, encoding-record, encoding-length}
+use Rattle.claims.proofs.Scans.{refused, scan, scanValue, scanBody, scanHeader}
 use Rattle.claims.proofs.Latch.{again}
 use Rattle.claims.proofs.Feeds.{fresh-ready}
 use Rattle.lines.specs.Lines.{lineRoom}
 use Rattle.reach.specs.Reach.{limit, others, addsUp, refusedBytes}
 use Rattle.listing.specs.Listing.{openAfter}
-use Rattle.listing.specs.Steps.{fresh, soundListing, listOf, Outcome}
+use Rattle.listing.specs.Steps.{listingOf, fresh, idle, settled, numberOnly, isSettled, soundListing, listOf, Outcome}
 use Rattle.listing.specs.Calls as calls
 use Rattle.listing.specs.Calls.{Calls, stop, call, written, all-taken}
 use Rattle.listing.specs.declared.listing.Listing.{Listing}
+use Rattle.listing.proofs.Settled.{keeps-all}
 use Rattle.listing.proofs.Cases.{facts}
 use Rattle.reach.proofs.Sums.{Rest, nothing, plain, attach, many, value, Sum, sum-of, refused-0}
-use Rattle.listing_claims.specs.Claims.{Reached, SoundIsReached}
+use Rattle.listing_claims.specs.Claims.{Sized, Reached, SoundIsReached}
 use Rattle.listing_claims.proofs.Futures.{Good}
-use Rattle.listing_claims.proofs.OneCall.{calls-more, calls-then, At, at-held, Took, took, waits, fails}
+use Rattle.listing_claims.proofs.OneCall.{calls-more, calls-then, At, Took, took, waits, fails}
 
 -- ---- the start
 pub first-good : (stage : List ℕ) → maxPayload ≤ length stage → Good fresh stage
-unfolding soundListing soundParser countsOk errorOk addsUp others refusedBytes
+unfolding soundListing soundParser countsOk errorOk isSettled numberOnly allZero addsUp others refusedBytes
 first-good stage l = record { sound = refl; room = l; ready = λ _. fresh-ready stage .0 }
 
 -- ---- bytes
@@ -113,7 +117,7 @@ module _ (stage : List ℕ) where
         octets = end;
         size = refl;
         calls = stop;
-        at = record { good = first-good stage l; clear = refl; empty = refl };
+        at = record { good = first-good stage l; parser = refl };
         offset-is = refl;
         open-is = refl;
       }
@@ -244,36 +248,6 @@ module _ (stage : List ℕ) where
               four (yes e) = behind 48 e (ack (reach-0 room) (omega arith))
               four (no e) = let z : s .rest ≡ 48 + (s .rest - 48) = omega arith in credited (s .rest - 48) z (omega arith) (omega arith)
 
--- ---- the first part of a record
-record Part (k : ℕ) : Type 0 where
-  piece : List ℕ
-  octets : Octets piece
-  size : length piece ≡ k
-  scans : scan piece ≡ unfinished
-
--- the header of a DATA of 65,536 bytes
-abbrev head : List ℕ
-head = headerBytes 5 zeros 0 0 65536
-
-part : (k : ℕ) → k < 65580 → Part k
-unfolding scanHeader scanBody headerBytes headerChecks first magicOf versionOf typeOf flagsOf instanceOf epochOf sequenceOf lengthOf fromLe toLe typeAt lengthOk allZero
-part k l = go (decLt k 44)
-  where
-    go : Dec (k < 44) → Part k
-    go (yes a) =
-        let y : List ℕ = replicate k 0 in
-        let e : length y ≡ k = length-replicate {A = ℕ} k 0 in
-        record { piece = y; octets = octets-zeros k; size = e; scans = scan-short y (omega arith) }
-    go (no a) =
-        let y : List ℕ = replicate (k - 44) 0 in
-        let e : length y ≡ k - 44 = length-replicate {A = ℕ} (k - 44) 0 in
-        record {
-          piece = head ++ y;
-          octets = octets-append (octets-header 5 65536 (omega arith)) (octets-zeros (k - 44));
-          size = length-append head y ∙ omega arith;
-          scans = scan-cut head y refl ∙ simp (lt-ltb (length y) 65536 (omega arith));
-        }
-
 -- ---- records that are refused
 record Bad (n : ℕ) : Type 0 where
   piece : List ℕ
@@ -331,107 +305,263 @@ bads n a b =
     (λ c. absurd (omega arith))))))))))
     a
 
--- ---- what is reached
-module _ (s : Listing) (stage : List ℕ) (room : maxPayload ≤ length stage) (t : soundListing s ≡ true) where
-  abbrev n : ℕ
-  n = s .parser .error .number
+-- ---- what a sound listing keeps
+-- two lists of zeros of one length are the same
+zeros-are : (l : List ℕ) → allZero l ≡ true → l ≡ replicate (length l) 0
+unfolding allZero
+zeros-are [] e = refl
+zeros-are (x ∷ l) e = λ i. eqb-true x 0 (and-left (eqb x 0) (allZero l) e) i ∷ zeros-are l (and-right (eqb x 0) (allZero l) e) i
 
-  abbrev k : ℕ
-  k = bufferedOf (s .parser)
+zeros-of : (n : ℕ) (l : List ℕ) → length l ≡ n → allZero l ≡ true → l ≡ replicate n 0
+zeros-of n l e z = zeros-are l z ∙ ap (λ (k : ℕ). replicate k 0) e
+
+drop-zeros : (n m : ℕ) → drop {A = ℕ} n (replicate m 0) ≡ replicate (m - n) 0
+drop-zeros zero m = let e : m ≡ m - 0 = omega arith in ap (λ (k : ℕ). replicate k 0) e
+drop-zeros (suc n) zero = let e : 0 ≡ 0 - suc n = omega arith in ap (λ (k : ℕ). replicate k 0) e
+drop-zeros (suc n) (suc m) = let e : m - n ≡ suc m - suc n = omega arith in drop-zeros n m ∙ ap (λ (k : ℕ). replicate k 0) e
+
+-- a refusal that is its number alone
+number-is : (r : Refusal) → numberOnly r ≡ true → length (r .expected) ≡ 16 → length (r .actual) ≡ 16 → r ≡ refusal (r .number) 0 0 0
+unfolding numberOnly
+number-is r t x y =
+    let t1 = and-right (eqb (r .a) 0) (eqb (r .b) 0 && (eqb (r .c) 0 && (allZero (r .expected) && allZero (r .actual)))) t in
+    let t2 = and-right (eqb (r .b) 0) (eqb (r .c) 0 && (allZero (r .expected) && allZero (r .actual))) t1 in
+    let t3 = and-right (eqb (r .c) 0) (allZero (r .expected) && allZero (r .actual)) t2 in
+    let ea : r .a ≡ 0 = eqb-true (r .a) 0 (and-left (eqb (r .a) 0) (eqb (r .b) 0 && (eqb (r .c) 0 && (allZero (r .expected) && allZero (r .actual)))) t) in
+    let eb : r .b ≡ 0 = eqb-true (r .b) 0 (and-left (eqb (r .b) 0) (eqb (r .c) 0 && (allZero (r .expected) && allZero (r .actual))) t1) in
+    let ec : r .c ≡ 0 = eqb-true (r .c) 0 (and-left (eqb (r .c) 0) (allZero (r .expected) && allZero (r .actual)) t2) in
+    let ex : r .expected ≡ replicate 16 0 = zeros-of 16 (r .expected) x (and-left (allZero (r .expected)) (allZero (r .actual)) t3) in
+    let ey : r .actual ≡ replicate 16 0 = zeros-of 16 (r .actual) y (and-right (allZero (r .expected)) (allZero (r .actual)) t3) in
+    λ i. record { number = r .number; a = ea i; b = eb i; c = ec i; expected = ex i; actual = ey i }
+
+-- ---- bytes that a parser holds
+-- a push from the start that leaves header bytes h and k payload bytes
+record Part (h : List ℕ) (n k : ℕ) : Type 0 where
+  piece : List ℕ
+  octets : Octets piece
+  size : length piece ≡ n + k
+  pushes : (stage : List ℕ) → 65536 ≤ length stage → push parser.fresh (length stage) (heldIn parser.fresh stage) piece .answer ≡ waiting h n k (length piece)
+
+module _ (h : List ℕ) (o : Octets h) (l : length h ≡ 44) where
+  starts : (piece stage : List ℕ) → 65536 ≤ length stage → push parser.fresh (length stage) [] piece ≡ pushHead (replicate 44 0) 0 0 [] piece
+  unfolding push soundParser countsOk errorOk
+  starts piece stage r =
+      ap (λ (t : Bool). pick t (pushHead (replicate 44 0) 0 0 [] piece) (record { answer = stopped parser.fresh (first (pushRows parser.fresh (length stage))); held = []; payload = [] }))
+      (pass-all (pushRows parser.fresh (length stage)) (refl, (le-leb 65536 (length stage) r, (refl, tt))))
+
+  -- not the whole of a header: the rest is 0
+  module _ (n : ℕ) (low : n < 44) (z : allZero (drop n h) ≡ true) where
+    long : length (take n h) ≡ n
+    long = length-take n h ∙ omega arith
+
+    taken : headTaken 0 (take n h) ≡ n
+    taken = omega (arith, long)
+
+    front : headWith (replicate 44 0) 0 (take n h) ≡ h
+    unfolding headWith overlay
+    front =
+        let same : take (headTaken 0 (take n h)) (take n h) ≡ take n h = take-all (headTaken 0 (take n h)) (take n h) (omega (arith, taken, long)) in
+        let rest : length (drop n h) ≡ 44 - n = length-drop n h ∙ omega arith in
+        ap (λ (x : List ℕ). x ++ drop (0 + length x) (replicate 44 0)) same
+        ∙ ap (λ (k : ℕ). take n h ++ drop (0 + k) (replicate 44 0)) long
+        ∙ ap (λ (x : List ℕ). take n h ++ x) (drop-zeros (0 + n) 44 ∙ ap (λ (k : ℕ). replicate (44 - k) 0) (let q : 0 + n ≡ n = omega arith in q) ∙ sym (zeros-of (44 - n) (drop n h) rest z))
+        ∙ take-append-drop n h
+
+    waits-for : pushHead (replicate 44 0) 0 0 [] (take n h) .answer ≡ waiting h n 0 (length (take n h))
+    unfolding pushHead
+    waits-for =
+        let q : 0 + headTaken 0 (take n h) ≡ n = omega (arith, taken) in
+        let H : List ℕ = headWith (replicate 44 0) 0 (take n h) in
+        let m : ℕ = headTaken 0 (take n h) in
+        ap (λ (t : Bool). pick t (record { answer = waiting H (0 + m) 0 m; held = []; payload = [] })
+        (pick (passes (headerChecks H)) (pushBody H 0 [] (drop m (take n h)) m) (record { answer = failed H (headerChecks H); held = []; payload = [] })) .answer)
+        (lt-ltb (0 + headTaken 0 (take n h)) 44 (omega arith))
+        ∙ (λ i. waiting (front i) (q i) 0 ((taken ∙ sym long) i))
+
+    in-head-part : Part h n 0
+    in-head-part =
+        record { piece = take n h; octets = octets-take n o; size = long ∙ omega arith; pushes = λ stage r. ap (λ (u : Push). u .answer) (starts (take n h) stage r) ∙ waits-for }
+
+  -- a header that passes, and k of its payload bytes
+  module _ (k : ℕ) (ok : passes (headerChecks h) ≡ true) (low : k < lengthOf h) where
+    abbrev y : List ℕ
+    y = replicate k 0
+
+    y-long : length y ≡ k
+    y-long = length-replicate {A = ℕ} k 0
+
+    body-long : length (h ++ y) ≡ 44 + k
+    body-long = length-append h y ∙ omega (arith, y-long)
+
+    abbrev piece : List ℕ
+    piece = h ++ y
+
+    head-taken : headTaken 0 piece ≡ 44
+    head-taken = omega (arith, body-long)
+
+    body-front : headWith (replicate 44 0) 0 piece ≡ h
+    unfolding headWith overlay
+    body-front =
+        let same : take (headTaken 0 piece) piece ≡ h = take-at h y (headTaken 0 piece) (omega (arith, head-taken)) in
+        ap (λ (x : List ℕ). x ++ drop (0 + length x) (replicate 44 0)) same ∙ ap (λ (j : ℕ). h ++ drop (0 + j) (replicate 44 0)) l ∙ append-nil h
+
+    body-taken : bodyTaken h 0 y ≡ k
+    body-taken = omega (arith, y-long)
+
+    body-waits : pushBody h 0 [] y 44 .answer ≡ waiting h 44 k (length piece)
+    unfolding pushBody
+    body-waits =
+        let q : 0 + bodyTaken h 0 y ≡ k = omega (arith, body-taken) in
+        let w : 44 + bodyTaken h 0 y ≡ length piece = omega (arith, body-taken, body-long) in
+        ap (λ (t : Bool). pick t (record { answer = waiting h 44 (0 + bodyTaken h 0 y) (44 + bodyTaken h 0 y); held = [] ++ take (bodyTaken h 0 y) y; payload = [] })
+        (finish h ([] ++ take (bodyTaken h 0 y) y) (44 + bodyTaken h 0 y) (Piece 44)) .answer)
+        (lt-ltb (0 + bodyTaken h 0 y) (lengthOf h) (omega arith))
+        ∙ (λ i. waiting h 44 (q i) (w i))
+
+    body-waits-for : pushHead (replicate 44 0) 0 0 [] piece .answer ≡ waiting h 44 k (length piece)
+    unfolding pushHead
+    body-waits-for =
+        let W : Push = record { answer = waiting (headWith (replicate 44 0) 0 piece) (0 + headTaken 0 piece) 0 (headTaken 0 piece); held = []; payload = [] } in
+        (λ i.
+        pick (le-ltb (0 + headTaken 0 piece) 44 (omega (arith, head-taken)) i) W
+        (pick (passes (headerChecks (body-front i))) (pushBody (body-front i) 0 [] (drop (head-taken i) piece) (head-taken i)) (record { answer = failed (body-front i) (headerChecks (body-front i)); held = []; payload = [] }))
+        .answer)
+        ∙ ap (λ (t : Bool). pick t (pushBody h 0 [] (drop 44 piece) 44) (record { answer = failed h (headerChecks h); held = []; payload = [] }) .answer) ok
+        ∙ ap (λ (z : List ℕ). pushBody h 0 [] z 44 .answer) (drop-at h y 44 l)
+        ∙ body-waits
+
+    in-body-part : Part h 44 k
+    in-body-part =
+        record { piece = piece; octets = octets-append o (octets-zeros k); size = body-long; pushes = λ stage r. ap (λ (u : Push). u .answer) (starts piece stage r) ∙ body-waits-for }
+
+-- ---- what is reached
+module _ (s : Listing) (stage : List ℕ) (room : maxPayload ≤ length stage) (z : Sized s) (t : soundListing s ≡ true) where
+  abbrev p : RecordParser
+  p = s .parser
+
+  abbrev n : ℕ
+  n = p .error .number
 
   r : Reach stage (s .offset) (s .«open»)
   r = let f = facts s t in sums stage room (s .offset) (s .«open») (sum-of (s .offset) (s .«open») (f .sums)) (omega (arith, f .read))
 
-  -- a sound parser holds less than a record
-  held-low : k < 65580
+  counts : countsOk (p .header) (p .«header_len») (p .«payload_len») ≡ true
   unfolding soundParser
-  held-low =
-      go (part-of (s .parser .header) (s .parser .«header_len») (s .parser .«payload_len»)
-      (and-left (countsOk (s .parser .header) (s .parser .«header_len») (s .parser .«payload_len»)) (errorOk n (s .parser .«header_len»)) (facts s t .parser)))
-    where
-      go : Held.Part (s .parser .header) (s .parser .«header_len») (s .parser .«payload_len») → k < 65580
-      go (inHead a b) = omega arith
-      go (inBody a c b) = omega (arith, length-low (s .parser .header) c)
+  counts = and-left (countsOk (p .header) (p .«header_len») (p .«payload_len»)) (errorOk n (p .«header_len»)) (facts s t .parser)
 
-  -- a latched error is one of 1 to 9
-  error-low : 1 ≤ n → n ≤ 9
+  -- a latched error is one of 1 to 9, and goes with no header byte
+  latched : 1 ≤ n → (n ≤ 9) × (p .«header_len» ≡ 0)
   unfolding soundParser errorOk
-  error-low e =
-      leb-true n 9 (and-left (leb n 9) (eqb (s .parser .«header_len») 0)
-      (sym (ap (λ (x : Bool). x || (leb n 9 && eqb (s .parser .«header_len») 0)) (ne-eqb n 0 (λ z. omega arith)))
-      ∙ and-right (countsOk (s .parser .header) (s .parser .«header_len») (s .parser .«payload_len»)) (errorOk n (s .parser .«header_len»)) (facts s t .parser)))
+  latched e =
+      let w : leb n 9 && eqb (p .«header_len») 0 ≡ true =
+      sym (ap (λ (x : Bool). x || (leb n 9 && eqb (p .«header_len») 0)) (ne-eqb n 0 (λ q. omega arith)))
+      ∙ and-right (countsOk (p .header) (p .«header_len») (p .«payload_len»)) (errorOk n (p .«header_len»)) (facts s t .parser)
+      in
+      (leb-true n 9 (and-left (leb n 9) (eqb (p .«header_len») 0) w), eqb-true (p .«header_len») 0 (and-right (leb n 9) (eqb (p .«header_len») 0) w))
+
+  error-is : p .error ≡ refusal n 0 0 0
+  unfolding isSettled
+  error-is = number-is (p .error) (and-left (numberOnly (p .error)) (allZero (drop (p .«header_len») (p .header))) (facts s t .settled)) (z .expected) (z .actual)
+
+  zero-behind : allZero (drop (p .«header_len») (p .header)) ≡ true
+  unfolding isSettled
+  zero-behind = and-right (numberOnly (p .error)) (allZero (drop (p .«header_len») (p .header))) (facts s t .settled)
+
+  -- no header byte is held
+  idle-is : p .«header_len» ≡ 0 → p ≡ idle n
+  idle-is e =
+      let k : p .«payload_len» ≡ 0 = filling-counts (p .header) (p .«header_len») (p .«payload_len») counts (λ q. omega arith) .1 in
+      let h : p .header ≡ replicate 44 0 = zeros-of 44 (p .header) (z .header) (subst (λ (j : ℕ). allZero (drop j (p .header)) ≡ true) e zero-behind) in
+      λ i. parserOf (h i) (e i) (k i) (error-is i)
+
+  -- the last call leaves s
+  leaves : (x : Listing) → x .parser ≡ p → x .offset ≡ s .offset → x .«open» ≡ s .«open» → x ≡ s
+  leaves x a b c = λ i. listingOf (a i) (b i) (c i)
 
   -- nothing is held
-  idle : n ≡ 0 → k ≡ 0 → Reached s stage
-  idle z e =
+  between : p .«header_len» ≡ 0 → n ≡ 0 → Reached s stage
+  between e q =
+      let k : p .«payload_len» ≡ 0 = filling-counts (p .header) (p .«header_len») (p .«payload_len») counts (λ q. omega arith) .1 in
       record {
         input = r .input;
         left = [];
-        last = r .t;
         after = r .after;
         texts = r .texts;
         octets = r .octets;
-        size = r .size ∙ omega (arith, refused-0 n z);
-        calls = r .calls;
+        size = r .size ∙ omega (arith, refused-0 n q);
+        calls = subst (λ (x : Listing). Calls fresh stage (r .input) [] x (r .after) (r .texts))
+            (leaves (r .t) (r .at .parser ∙ ap idle (sym q) ∙ sym (idle-is e)) (r .offset-is) (r .open-is)) (r .calls);
         ended = all-taken refl;
-        offset = r .offset-is;
-        «open» = r .open-is;
-        held = at-held (r .at) ∙ sym e;
-        number = eqb-true (r .t .parser .error .number) 0 (r .at .clear) ∙ sym z;
       }
 
   -- the first part of a record is held
-  under-way : n ≡ 0 → 0 < k → Reached s stage
-  under-way z e =
-      let p : Part k = part k held-low in
+  under-way : Part (p .header) (p .«header_len») (p .«payload_len») → (p .«header_len» ≡ 0 → ⊥) → Reached s stage
+  under-way b e =
+      let q : n ≡ 0 = clear in
       let f = facts s t in
-      let w = waits (r .t) (r .after) (p .piece) out (r .at) (omega (arith, r .offset-is, p .size, f .read)) (omega (arith, p .size)) out-room (p .scans) in
-      let x : Outcome = listOf (r .t) (p .piece) (r .after) out in
+      let w = waits (r .t) (r .after) (b .piece) out (r .at) (omega (arith, r .offset-is, b .size, f .read)) (omega (arith, b .size)) out-room (p .header) (p .«header_len») (p .«payload_len»)
+      (b .pushes (r .after) (r .at .good .room)) in
+      let x : Outcome = listOf (r .t) (b .piece) (r .after) out in
+      let same : x .listed .listing ≡ s =
+      w .1
+      ∙ leaves (listingOf (settled (parserOf (p .header) (p .«header_len») (p .«payload_len») none)) (r .t .offset) (r .t .«open»))
+      (sym (keeps-all (parserOf (p .header) (p .«header_len») (p .«payload_len») none) e)
+      ∙ (λ i. parserOf (p .header) (p .«header_len») (p .«payload_len») (sym (error-is ∙ ap (λ (j : ℕ). refusal j 0 0 0) q) i)))
+      (r .offset-is) (r .open-is)
+      in
       record {
-        input = r .input ++ p .piece;
-        left = drop (x .listed .taken) (p .piece);
-        last = x .listed .listing;
+        input = r .input ++ b .piece;
+        left = drop (x .listed .taken) (b .piece);
         after = x .stage;
         texts = r .texts ++ (written x ∷ []);
-        octets = octets-append (r .octets) (p .octets);
-        size = length-append (r .input) (p .piece) ∙ omega (arith, r .size, p .size, refused-0 n z);
-        calls = one-more (r .calls) (p .piece);
+        octets = octets-append (r .octets) (b .octets);
+        size = length-append (r .input) (b .piece) ∙ omega (arith, r .size, b .size, refused-0 n q);
+        calls = subst (λ (l : Listing). Calls fresh stage (r .input ++ b .piece) (drop (x .listed .taken) (b .piece)) l (x .stage) (r .texts ++ (written x ∷ []))) same (one-more (r .calls) (b .piece));
         ended = all-taken (w .0);
-        offset = w .1 .offset ∙ r .offset-is;
-        «open» = w .1 .«open» ∙ r .open-is;
-        held = w .1 .held ∙ p .size;
-        number = w .1 .error ∙ sym z;
       }
+    where
+      clear : n ≡ 0
+      clear = go (decLt 0 n)
+        where
+          go : Dec (0 < n) → n ≡ 0
+          go (yes l) = absurd (e (latched l .1))
+          go (no l) = omega arith
 
   -- the last record was refused
-  stopped : 1 ≤ n → Reached s stage
-  stopped e =
-      let p : Bad n = bads n e (error-low e) in
+  stopped-at : 1 ≤ n → Reached s stage
+  stopped-at e =
+      let b : Bad n = bads n e (latched e .0) in
       let f = facts s t in
-      let none-held : k ≡ 0 = again (s .parser) 65536 [] [] (f .parser) (ne-eqb n 0 (λ z. omega arith)) (omega arith) .buffered in
+      let none-held : bufferedOf p ≡ 0 = again p 65536 [] [] (f .parser) (ne-eqb n 0 (λ q. omega arith)) (omega arith) .buffered in
       let some : 44 ≤ refusedBytes n = refused-some n e in
-      let w = fails (r .t) (r .after) (p .piece) out (r .at) (omega (arith, r .offset-is, p .size, f .all)) (omega (arith, p .size)) out-room (p .told) (p .scans) in
-      let x : Outcome = listOf (r .t) (p .piece) (r .after) out in
+      let w = fails (r .t) (r .after) (b .piece) out (r .at) (omega (arith, r .offset-is, b .size, f .all)) (omega (arith, b .size)) out-room (b .told) (b .scans) in
+      let x : Outcome = listOf (r .t) (b .piece) (r .after) out in
+      let same : x .listed .listing ≡ s =
+      w ∙ leaves (listingOf (idle (b .told .number)) (r .t .offset) (r .t .«open»)) (ap idle (b .number) ∙ sym (idle-is (latched e .1))) (r .offset-is) (r .open-is)
+      in
       record {
-        input = r .input ++ p .piece;
-        left = drop (x .listed .taken) (p .piece);
-        last = x .listed .listing;
+        input = r .input ++ b .piece;
+        left = drop (x .listed .taken) (b .piece);
         after = x .stage;
         texts = r .texts ++ (written x ∷ []);
-        octets = octets-append (r .octets) (p .octets);
-        size = length-append (r .input) (p .piece) ∙ omega (arith, r .size, p .size);
-        calls = one-more (r .calls) (p .piece);
-        ended = calls.refused (w .0);
-        offset = w .1 .offset ∙ r .offset-is;
-        «open» = w .1 .«open» ∙ r .open-is;
-        held = w .1 .held ∙ sym none-held;
-        number = w .1 .error ∙ p .number;
+        octets = octets-append (r .octets) (b .octets);
+        size = length-append (r .input) (b .piece) ∙ omega (arith, r .size, b .size);
+        calls = subst (λ (l : Listing). Calls fresh stage (r .input ++ b .piece) (drop (x .listed .taken) (b .piece)) l (x .stage) (r .texts ++ (written x ∷ []))) same (one-more (r .calls) (b .piece));
+        ended = calls.refused (ne-eqb n 0 (λ q. omega arith));
       }
 
 pub reached : SoundIsReached
-reached s stage room t = go (ℕ-discrete (s .parser .error .number) 0) (ℕ-discrete (bufferedOf (s .parser)) 0)
+reached s stage room z t = go (decLt 0 (s .parser .error .number)) (ℕ-discrete (s .parser .«header_len») 0) (ℕ-discrete (s .parser .«header_len») 44)
   where
-    go : Dec (s .parser .error .number ≡ 0) → Dec (bufferedOf (s .parser) ≡ 0) → Reached s stage
-    go (yes z) (yes e) = idle s stage room t z e
-    go (yes z) (no e) = under-way s stage room t z (omega arith)
-    go (no z) e = stopped s stage room t (omega arith)
+    p : RecordParser
+    p = s .parser
+
+    go : Dec (0 < p .error .number) → Dec (p .«header_len» ≡ 0) → Dec (p .«header_len» ≡ 44) → Reached s stage
+    go (yes e) a b = stopped-at s stage room z t e
+    go (no e) (yes a) b = between s stage room z t a (omega arith)
+    go (no e) (no a) (yes b) =
+        let c = held-counts (p .header) (p .«header_len») (p .«payload_len») (counts s stage room z t) b in
+        under-way s stage room z t (subst (λ (j : ℕ). Part (p .header) j (p .«payload_len»)) (sym b) (in-body-part (p .header) (z .octets) (z .header) (p .«payload_len») (c .0) (c .1))) a
+    go (no e) (no a) (no b) =
+        let c = filling-counts (p .header) (p .«header_len») (p .«payload_len») (counts s stage room z t) b in
+        under-way s stage room z t (subst (Part (p .header) (p .«header_len»)) (sym (c .1)) (in-head-part (p .header) (z .octets) (z .header) (p .«header_len») (c .0) (zero-behind s stage room z t))) a

@@ -8,7 +8,6 @@ use Rattle.wire.specs.Bytes.{Octets}
 use Rattle.wire.specs.Refusals.{passes}
 use Rattle.protocol.specs.Outer as outer
 use Rattle.protocol.specs.Outer.{maxPayload}
-use Rattle.parser.specs.Push.{soundParser, bufferedOf}
 use Rattle.lines.specs.Lines.{lineRoom}
 use Rattle.reach.specs.Reach.{limit, refusedBytes}
 use Rattle.listing.specs.Listing.{listing}
@@ -40,29 +39,27 @@ NeverUnsound =
     (input left stage after : List ℕ) (t : Listing) (texts : List (List ℕ))
     → maxPayload ≤ length stage → Calls fresh stage input left t after texts → soundListing t ≡ true
 
--- A capture whose calls, to the end of reading, leave a listing like s: with its offset and open, as many bytes held, and a refusal of
--- the same number or none. The capture has as many bytes as s has read.
+-- The bytes of a value of the type `Listing`: a header has 44, and each field of a refusal 16.
+pub record Sized (s : Listing) : Type 0 where
+  pub header : length (s .parser .header) ≡ 44
+  pub octets : Octets (s .parser .header)
+  pub expected : length (s .parser .error .expected) ≡ 16
+  pub actual : length (s .parser .error .actual) ≡ 16
+
+-- A capture, and calls to the end of reading that leave s. The capture has as many bytes as s has read.
 pub record Reached (s : Listing) (stage : List ℕ) : Type 0 where
   pub input : List ℕ
   pub left : List ℕ
-  pub last : Listing
   pub after : List ℕ
   pub texts : List (List ℕ)
   pub octets : Octets input
   pub size : length input ≡ readOf s + refusedBytes (s .parser .error .number)
-  pub calls : Calls fresh stage input left last after texts
-  pub ended : Ended last left
-  pub offset : last .offset ≡ s .offset
-  pub «open» : last .«open» ≡ s .«open»
-  pub held : bufferedOf (last .parser) ≡ bufferedOf (s .parser)
-  pub number : last .parser .error .number ≡ s .parser .error .number
+  pub calls : Calls fresh stage input left s after texts
+  pub ended : Ended s left
 
--- Sound is exact for these: a sound listing is reached in this sense, and one that is reached, with a sound parser, is sound.
+-- Every sound listing is one that calls leave. With `NeverUnsound`: exactly the listings that no calls leave get 23.
 abbrev pub SoundIsReached : Type 0
-SoundIsReached = (s : Listing) (stage : List ℕ) → maxPayload ≤ length stage → soundListing s ≡ true → Reached s stage
-
-abbrev pub ReachedIsSound : Type 0
-ReachedIsSound = (s : Listing) (stage : List ℕ) → maxPayload ≤ length stage → soundParser (s .parser) ≡ true → Reached s stage → soundListing s ≡ true
+SoundIsReached = (s : Listing) (stage : List ℕ) → maxPayload ≤ length stage → Sized s → soundListing s ≡ true → Reached s stage
 
 -- A call that is lent bytes before reading ends takes one or more, or answers a refusal; so the calls come to an end.
 abbrev pub TakesSome : Type 0
@@ -80,7 +77,6 @@ pub record ListingClaims : Type 0 where
   -- 01, What stops each operation: "23, value unsound"
   pub sound : NeverUnsound
   pub reached : SoundIsReached
-  pub only-reached : ReachedIsSound
   pub some : TakesSome
   -- 01: "Reading ends at 2^62 bytes as at the end of the input"
   pub ends : ReadingEnds

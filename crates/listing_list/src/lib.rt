@@ -4,6 +4,7 @@ use lines::put_line;
 use listing::listing::Listed;
 use listing::listing::Listing;
 use parser::parser::Pushed;
+use parser::parser::RecordParser;
 use parser::parser::payload;
 use parser_push::push;
 use payloads::value;
@@ -20,7 +21,7 @@ ghost use Rattle.wire.specs.Refusals.{none};
 ghost use Rattle.types.specs.Types.{codeOf};
 ghost use Rattle.reach.specs.Reach.{limit};
 ghost use Rattle.listing.specs.Listing.{openAfter};
-ghost use Rattle.listing.specs.Steps.{listingOf, readOf, soundListing, listed, lineOf, recordListed, stepOf, further, lines, listOf, outcome};
+ghost use Rattle.listing.specs.Steps.{listingOf, readOf, settled, soundListing, listed, lineOf, recordListed, stepOf, further, lines, listOf, outcome};
 
 // Nothing changed.
 fn stop(listing: Listing, refusal: Refusal) -> Listed
@@ -75,6 +76,22 @@ fn code_of(record: Record) -> u8
     record_type.code()
 }
 
+// What a listing keeps of a parser: between records no byte of a header, and of a refusal its
+// number alone.
+fn settle(parser: RecordParser) -> RecordParser
+    ensures { λ r. ⌜ r ≡ settled parser ⌝ }
+{
+    if parser.header_len != 0 {
+        return parser;
+    }
+    RecordParser {
+        header: [0u8; 44],
+        header_len: 0,
+        payload_len: 0,
+        error: Refusal::new(parser.error.number, 0, 0, 0),
+    }
+}
+
 // A record is complete: its line, and the state after it. It stands at `offset`, and `before` is
 // open before it.
 fn record_line(
@@ -100,7 +117,7 @@ fn record_line(
         pushed.record.length as u64,
         open,
     );
-    let empty = pushed.parser;
+    let empty = settle(pushed.parser);
     Listed {
         refusal: Refusal::none(),
         taken: pushed.consumed,
@@ -115,10 +132,10 @@ fn record_line(
 
 // No record is complete, so there is no line.
 fn no_line(listing: Listing, pushed: Pushed, at: usize) -> Listed
-    ensures { λ r. ⌜ r ≡ listed (pushed .refusal) (pushed .consumed) at (listingOf (pushed .parser) (listing .offset) (listing .«open»)) ⌝ }
+    ensures { λ r. ⌜ r ≡ listed (pushed .refusal) (pushed .consumed) at (listingOf (settled (pushed .parser)) (listing .offset) (listing .«open»)) ⌝ }
 {
     let refusal = pushed.refusal;
-    let parser = pushed.parser;
+    let parser = settle(pushed.parser);
     Listed {
         refusal,
         taken: pushed.consumed,

@@ -1,10 +1,15 @@
--- `listing_list::no_line` meets its contract: the answer is built of the parts that the rule names. Assumes nothing.
+-- `listing_list::no_line` meets its contract: the answer is built of the parts that the rule names, and of the parser what is kept. Assumes nothing.
+use mathlib.Core.Path.{ap}
+use Rattle.listing.specs.Steps.{listingOf, listed}
 use borrow.Author.Needs.{needs}
 use Rattle.listing_list.proofs.no_line.Statement.{statement}
 use Rattle.listing_list.proofs.no_line.Tie as tie
 
+settle-requires : tie.Need-settle-requires
+settle-requires c κs = search needs
+
 returns : tie.Need-returns
-returns c = search needs
+returns c = let a = c .before .before .args in ap (λ p. listed (a .pushed .refusal) (a .pushed .consumed) (a .at) (listingOf p (a .listing .offset) (a .listing .«open»))) (c .settle .ensures)
 
 pub no-line-spec : {M : Type 1} → statement M
-no-line-spec = tie.close (tie.spec returns)
+no-line-spec = tie.close (tie.spec settle-requires returns)

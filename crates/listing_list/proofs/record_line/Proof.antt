@@ -16,6 +16,9 @@ cast-put-line c = search needs
 put-line-requires : tie.Need-put-line-requires
 put-line-requires c κs = search needs
 
+settle-requires : tie.Need-settle-requires
+settle-requires c κs = search needs
+
 none-requires : tie.Need-none-requires
 none-requires c κs = search needs
 
@@ -29,7 +32,7 @@ same-length : tie.Need-same-length
 same-length c = search needs
 
 returns : tie.Need-returns
-returns c = let a = c .before .before .before .before .before .before .before .before .before .before .args in record-line (a .offset) (a .before) (a .pushed) _ _ (a .at) (c .before .before .before .before .before .before .before .code-of .result) (c .before .before .before .before .before .before .open-after .result) _ (c .before .before .before .before .before .before .before .before .before .before .pre .0) (c .before .before .before .before .before .before .before .code-of .ensures) (c .before .before .before .before .before .before .open-after .ensures) (c .none .ensures) (c .before .before .before .before .put-line .ensures)
+returns c = let a = c .before .before .before .before .before .before .before .before .before .before .args in record-line (a .offset) (a .before) (a .pushed) _ _ (a .at) (c .before .before .before .before .before .before .before .code-of .result) (c .before .before .before .before .before .before .open-after .result) _ _ (c .before .before .before .before .before .before .before .before .before .before .pre .0) (c .before .before .before .before .before .before .before .code-of .ensures) (c .before .before .before .before .before .before .open-after .ensures) (c .none .ensures) (c .before .settle .ensures) (c .before .before .before .before .put-line .ensures)
 
 pub record-line-spec : {M : Type 1} → statement M
 record-line-spec =
@@ -39,6 +42,7 @@ record-line-spec =
     open-after-requires
     cast-put-line
     put-line-requires
+    settle-requires
     none-requires
     add-t14
     add-t16

@@ -10,11 +10,17 @@ buffered-requires c κs = search needs
 returns : tie.Need-returns
 returns c = search soundness
 
-reached-requires : tie.Need-reached-requires
-reached-requires c κs = search needs
+is-settled-requires : tie.Need-is-settled-requires
+is-settled-requires c κs = search needs
 
 returns-2 : tie.Need-returns-2
 returns-2 c = search soundness
 
+reached-requires : tie.Need-reached-requires
+reached-requires c κs = search needs
+
+returns-3 : tie.Need-returns-3
+returns-3 c = search soundness
+
 pub is-sound-spec : {M : Type 1} → statement M
-is-sound-spec = tie.close (tie.spec buffered-requires returns reached-requires returns-2)
+is-sound-spec = tie.close (tie.spec buffered-requires returns is-settled-requires returns-2 reached-requires returns-3)
