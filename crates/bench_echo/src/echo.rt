@@ -71,7 +71,7 @@ fn guest_turn(g: GuestSession, wire: &[u8], stage: &mut [u8], reply: &mut [u8]) 
     let received = guest_receive::receive(g, wire, stage);
     let active = received.session;
     let place = received.place;
-    let bytes = guest_receive::payload(wire, stage, place, received.length);
+    let bytes = guest_accept::payload(wire, stage, place, received.length);
     answer(active, bytes, reply)
 }
 

@@ -16,12 +16,12 @@ use Rattle.parser.specs.Push.{countsOk, errorOk, soundParser, finish, pushBody,
 use Rattle.parser.specs.declared.parser.Place.the-variants.{Piece}
 use Rattle.session.specs.Checks.{same, identity, noIdentity, identityOk, holds}
 use Rattle.guest.specs.State.{freshGuest, soundGuest}
-use Rattle.guest_receive.specs.Receive as R
+use Rattle.guest_accept.specs.Receive as R
 use Rattle.guest_calls.specs.Calls as C
 use Rattle.guest.specs.Asks as A
 use Rattle.guest.specs.declared.guest.GuestState.the-variants as State
-use Rattle.guest_receive.specs.declared.GuestEvent.{GuestEvent}
-use Rattle.guest_receive.specs.declared.GuestEvent.the-variants as Event
+use Rattle.guest_accept.specs.declared.GuestEvent.{GuestEvent}
+use Rattle.guest_accept.specs.declared.GuestEvent.the-variants as Event
 use Rattle.claims.specs.GuestCalls.{own, other, attach, acknowledge, credit, askState, askOutstanding, Call, receive, write, ask, state, outstanding, Answer, received, sent, told, eventOf, Endpoint, step, fresh}
 use Rattle.claims.specs.GuestHistory.{after, Seen, trace, history, AllOwnOrShorter, noTally, count, noTranscript, transcribe}
 use Rattle.claims.specs.GuestClaims.{ResetRun, answers}

@@ -18,7 +18,7 @@ use Rattle.wire.proofs.Rows.{passed, picked}
 use Rattle.parser.specs.Push.{heldIn, payloadAt, bufferedOf}
 use Rattle.session.specs.Checks.{nextRow}
 use Rattle.guest.specs.State.{isDetached, isResetting, isActive, isEnded, soundGuest}
-use Rattle.guest_receive.specs.Receive as R
+use Rattle.guest_accept.specs.Receive as R
 use Rattle.guest_calls.specs.Calls as C
 use Rattle.guest.specs.declared.guest.GuestSession.{GuestSession}
 use Rattle.guest_calls.specs.declared.Closed.{Closed}

@@ -10,13 +10,13 @@ use Rattle.parser.specs.declared.parser.Place.{Place}
 use Rattle.parser.specs.declared.parser.Count.{Count}
 use Rattle.session.specs.declared.session.Identity.{Identity}
 use Rattle.guest.specs.State.{freshGuest}
-use Rattle.guest_receive.specs.Receive as Receive
+use Rattle.guest_accept.specs.Receive as Receive
 use Rattle.guest_calls.specs.Calls as Calls
 use Rattle.guest.specs.Asks as Asks
-use Rattle.guest_receive.specs.declared.GuestEvent.{GuestEvent}
-use Rattle.guest_receive.specs.declared.GuestEvent.the-variants as Event
+use Rattle.guest_accept.specs.declared.GuestEvent.{GuestEvent}
+use Rattle.guest_accept.specs.declared.GuestEvent.the-variants as Event
 use Rattle.guest.specs.declared.guest.GuestSession.{GuestSession}
-use Rattle.guest_receive.specs.declared.Received.{Received}
+use Rattle.guest_accept.specs.declared.Received.{Received}
 use Rattle.guest_calls.specs.declared.Closed.{Closed}
 use Rattle.guest.specs.declared.guest.StateAnswer.{StateAnswer}
 use Rattle.guest.specs.declared.guest.IdentityAnswer.{IdentityAnswer}

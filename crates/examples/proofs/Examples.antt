@@ -13,7 +13,7 @@ use Rattle.record.specs.Record.{allZero, payloadChecks, headerChecks, recordWit
 use Rattle.parser.specs.Push.{countsOk, errorOk, soundParser, finish, pushBody, headWith, pushHead, push, neededOf, counted}
 use Rattle.session.specs.Checks.{same, identityOk, holds}
 use Rattle.guest.specs.State.{soundGuest}
-use Rattle.guest_receive.specs.Receive.{acceptReset, acceptData, accept, afterPush, receive}
+use Rattle.guest_accept.specs.Receive.{acceptReset, acceptData, accept, afterPush, receive}
 use Rattle.guest_calls.specs.Calls.{writes, attach, acknowledge, send, credit}
 use Rattle.wire.specs.declared.refusal.Refusal.{Refusal}
 use Rattle.parser.specs.Push.{Push}

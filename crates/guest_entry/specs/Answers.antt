@@ -1,5 +1,5 @@
 -- What an entry answers: all of the by-value operation's answer but the session, which is the caller's at exit.
-use Rattle.guest_receive.specs.declared.Received.{Received}
+use Rattle.guest_accept.specs.declared.Received.{Received}
 use Rattle.guest_calls.specs.declared.Sent.{Sent}
 use Rattle.guest_entry.specs.declared.ReceiveAnswer.{ReceiveAnswer}
 use Rattle.guest_entry.specs.declared.CreditAnswer.{CreditAnswer}

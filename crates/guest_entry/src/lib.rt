@@ -3,22 +3,22 @@
 // the session of its answer back. The functions by value over them are for callers that hold the
 // session themselves.
 use guest::guest::GuestSession;
+use guest_accept::GuestEvent;
+use guest_accept::Received;
 use guest_calls::Sent;
 use guest_calls::credit;
-use guest_receive::GuestEvent;
-use guest_receive::Received;
 use guest_receive::receive;
 use parser::parser::Place;
 use session::session::Identity;
 use wire::refusal::Refusal;
 ghost use mathlib.Core.Path.{_≡_};
-ghost use Rattle.guest_receive.specs.Receive.{receiveOf};
-ghost use Rattle.guest_receive.specs.Receive as receiving;
+ghost use Rattle.guest_accept.specs.Receive.{receiveOf};
+ghost use Rattle.guest_accept.specs.Receive as receiving;
 ghost use Rattle.guest_calls.specs.Calls.{outcome, credit};
 ghost use Rattle.guest_entry.specs.Answers.{receiveAnswer, creditAnswer};
 
 // What a receive answers beside the session. The bytes of data are had by `payload` of
-// guest_receive.
+// guest_accept.
 pub struct ReceiveAnswer {
     pub refusal: Refusal,
     pub consumed: usize,

@@ -2,12 +2,12 @@
 use guest::guest::GuestSession;
 use guest::guest::GuestState;
 use guest::guest::WindowAnswer;
+use guest_accept::GuestEvent;
+use guest_accept::Received;
 use guest_calls::Closed;
 use guest_calls::Sent;
 use guest_entry::credit_once;
 use guest_entry::receive_once;
-use guest_receive::GuestEvent;
-use guest_receive::Received;
 use replay_answer::answer::Answer;
 use replay_answer::answer::Ask;
 use replay_answer::answer::COUNT;
