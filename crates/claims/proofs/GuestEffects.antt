@@ -20,7 +20,9 @@ use Rattle.session.specs.Checks.{noIdentity, identityOf}
 use Rattle.guest.specs.State.{isDetached, isResetting, isActive, isOpen, isEnded, soundGuest, withState, resetGuest, dataGuest, ackGuest, sentGuest}
 use Rattle.guest_checks.specs.Checks.{resetRows, dataRows}
 use Rattle.guest_accept.specs.Receive as R
+use Rattle.guest_writes.specs.Writes as W
 use Rattle.guest_calls.specs.Calls as C
+use Rattle.guest_send.specs.Send as S
 use Rattle.guest.specs.Asks as A
 use Rattle.guest.specs.declared.guest.GuestState.the-variants as State
 use Rattle.guest_accept.specs.declared.GuestEvent.the-variants as Event
@@ -200,16 +202,16 @@ module _ (e : Endpoint) (invariant : Invariant (e .session)) where
   -- ---- calls that write
   effect-write : (w : Writing) (o : List ℕ) (at : ℕ) (rows : List (Bool × Refusal)) → Numbered rows → Others rows → (g' : GuestSession) (n : ℕ) (bytes : List ℕ)
       → (Passed rows → (next : ℕ) (written : List ℕ) → Effect e (write w o at) (record { answer = sent none n next written; after = endpoint g' (e .stage) }))
-      → Effect e (write w o at) (writeStep (C.writes (first (C.soundRow g ∷ rows)) g g' n bytes o at) at (e .stage))
-  unfolding C.writes
+      → Effect e (write w o at) (writeStep (W.writes (first (W.soundRow g ∷ rows)) g g' n bytes o at) at (e .stage))
+  unfolding W.writes
   effect-write w o at rows numbered no-23 g' n bytes k =
       let same = after-first (soundGuest g) (refusal 23 0 0 0) rows sound in
-      picked (λ (t : C.Outcome). Effect e (write w o at) (writeStep t at (e .stage))) (passes (first (C.soundRow g ∷ rows)))
+      picked (λ (t : W.Outcome). Effect e (write w o at) (writeStep t at (e .stage))) (passes (first (W.soundRow g ∷ rows)))
       (λ p. k (passed rows numbered (ap (λ (r : Refusal). passes r) (sym same) ∙ p)) _ _)
-      (λ p. refuses-write w o at (first (C.soundRow g ∷ rows)) _ (p, ap (λ (r : Refusal). eqb (r .number) 23) same ∙ others rows no-23))
+      (λ p. refuses-write w o at (first (W.soundRow g ∷ rows)) _ (p, ap (λ (r : Refusal). eqb (r .number) 23) same ∙ others rows no-23))
 
   effect-writing : (w : Writing) (o : List ℕ) (at : ℕ) → Effect e (write w o at) (step e (write w o at))
-  unfolding step C.attach C.acknowledge C.send C.credit
+  unfolding step C.attach C.acknowledge S.send S.credit
   effect-writing attach o at = effect-write attach o at _ (refl, (refl, tt)) (refl, (refl, tt)) _ _ _ (λ p next bytes. attaches o at _ next bytes (p .0))
   effect-writing (acknowledge w) o at = effect-write (acknowledge w) o at _ (refl, (refl, (refl, tt))) (refl, (refl, (refl, tt))) _ _ _ (λ p next bytes. acks w o at _ next bytes (p .0) (p .1 .0))
   effect-writing (send bs) o at =

@@ -17,7 +17,8 @@ use Rattle.session.specs.Checks.{identity}
 use Rattle.session.specs.declared.session.Identity.{Identity}
 use Rattle.guest.specs.State.{freshGuest}
 use Rattle.guest_accept.specs.Receive.{Receive, receive}
-use Rattle.guest_calls.specs.Calls.{attach, acknowledge, send, credit}
+use Rattle.guest_calls.specs.Calls.{attach, acknowledge}
+use Rattle.guest_send.specs.Send.{send, credit}
 use Rattle.guest.specs.declared.guest.GuestState.{GuestState}
 use Rattle.guest.specs.declared.guest.GuestState.the-variants as State
 use Rattle.guest_accept.specs.declared.GuestEvent.the-variants as Event

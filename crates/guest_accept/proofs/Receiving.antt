@@ -20,7 +20,7 @@ use Rattle.session.specs.Checks.{noIdentity, identityOf, lastSequence}
 use Rattle.session.specs.declared.session.Identity.{Identity}
 use Rattle.guest.specs.State.{code, isOpen, isActive, soundGuest, withState, resetSession, dataGuest}
 use Rattle.guest_checks.specs.Checks.{resetRows, dataRows}
-use Rattle.guest_accept.specs.Receive.{typeRow, isReset, Receive, answered, refused, told, acceptReset, acceptData, accept, afterPush, receiveRows, receive, receiveStage, Outcome, outcome, receiveOf}
+use Rattle.guest_accept.specs.Receive.{typeRow, isReset, Receive, answered, refused, told, acceptReset, acceptData, accept, afterPush, receiveRows, receive, receiveStage, outcome, receiveOf}
 use Rattle.guest.specs.declared.guest.GuestState.the-variants as State
 use Rattle.guest_accept.specs.declared.GuestEvent.the-variants as Event
 use Rattle.guest.specs.declared.guest.GuestSession.{GuestSession}

@@ -3,20 +3,20 @@
 use Prim.Native.Nat.{ℕ, _+_, _-_, _^_, _≤_, _<_, min}
 use mathlib.Core.Path.{_≡_, refl, sym, ap, subst, _∙_}
 use mathlib.Core.Bool.{Bool, true, false, not, _&&_}
-use mathlib.Core.List.{List, [], _∷_}
+use mathlib.Core.List.{List}
 use native.Mathlib.Omega.{arith}
 use lib.ListN.{length, take, drop}
 use lib.Dec.{eqb, leb, ltb}
-use borrow.Author.Tests.{eq-eqb, eqb-true, lt-ltb, ltb-true, le-leb, leb-true, not-true, not-false}
+use borrow.Author.Tests.{eq-eqb, eqb-true, lt-ltb, ltb-true, leb-true, not-true, not-false}
 use Rattle.wire.specs.Bytes.{copied}
-use Rattle.wire.specs.Refusals.{pick, none, first, passes}
+use Rattle.wire.specs.Refusals.{none, first, passes}
 use Rattle.wire.specs.Header.{typeOf, instanceOf, epochOf, sequenceOf, lengthOf}
 use Rattle.wire.specs.declared.Epoch.{Epoch}
 use Rattle.wire.specs.declared.Sequence.{Sequence}
 use Rattle.wire.proofs.Rows.{Passed, passed, pass-all, and-left, and-right}
 use Rattle.types.specs.Types.{codeOf}
 use Rattle.record.specs.Record.{headerChecks, payloadChecks, recordWith, recordOf}
-use Rattle.parser.specs.Push.{parserOf, soundParser, clear, waiting, failed, completed, finish, pushBody, bodyStage, headTaken, headWith, pushHead, headStage, pushOf}
+use Rattle.parser.specs.Push.{parserOf, soundParser, clear, waiting, completed, finish, pushBody, bodyStage, headTaken, headWith, pushOf}
 use Rattle.parser.specs.Push as pushing
 use Rattle.parser.specs.declared.parser.Place.{Place}
 use Rattle.parser.specs.declared.parser.Place.the-variants.{Piece, Stage}

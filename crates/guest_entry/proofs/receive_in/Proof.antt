@@ -53,7 +53,7 @@ use Rattle.guest_entry.specs.Answers.{receiveAnswer}
 use Rattle.guest.specs.declared.guest.GuestSession.{GuestSession}
 use Rattle.guest_accept.specs.declared.Received.{Received}
 use Rattle.guest_entry.specs.declared.ReceiveAnswer.{ReceiveAnswer}
-use Rattle.guest_entry.proofs.Says.{says3}
+use Rattle.entry_laws.proofs.Says.{says3}
 use Rattle.guest.proofs.guest.GuestSession as S
 use Rattle.guest.proofs.guest.GuestSession.Laws as S′
 use Rattle.guest_accept.proofs.Received as D
