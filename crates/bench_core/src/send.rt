@@ -19,7 +19,7 @@ fn turn(run: Run, data: &[u8], size: usize, output: &mut [u8]) -> Run {
     let at = run.at;
     let end = piece_end(at, at, size, data.len());
     let before = run.guest;
-    let sent = guest_calls::send(before, cut(data, at, end), output, run.next);
+    let sent = guest_send::send(before, cut(data, at, end), output, run.next);
     let guest = sent.session;
     Run {
         guest,

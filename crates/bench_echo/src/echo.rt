@@ -56,9 +56,9 @@ fn low(x: usize) -> u32 {
 
 // The guest sends bytes back and credits them.
 fn answer(g: GuestSession, bytes: &[u8], reply: &mut [u8]) -> GuestTurn {
-    let sent = guest_calls::send(g, bytes, reply, 0);
+    let sent = guest_send::send(g, bytes, reply, 0);
     let sending = sent.session;
-    let credited = guest_calls::credit(sending, low(bytes.len()), reply, sent.next);
+    let credited = guest_send::credit(sending, low(bytes.len()), reply, sent.next);
     let guest = credited.session;
     GuestTurn {
         guest,
@@ -71,7 +71,7 @@ fn guest_turn(g: GuestSession, wire: &[u8], stage: &mut [u8], reply: &mut [u8]) 
     let received = guest_receive::receive(g, wire, stage);
     let active = received.session;
     let place = received.place;
-    let bytes = guest_receive::payload(wire, stage, place, received.length);
+    let bytes = guest_accept::payload(wire, stage, place, received.length);
     answer(active, bytes, reply)
 }
 

@@ -18,13 +18,16 @@ use Rattle.parser.specs.Push.{Push, push, pushStage, headWith, heldIn, buffered
 use Rattle.parser.specs.declared.parser.Place.the-variants.{Piece}
 use Rattle.session.specs.Checks.{noIdentity, identityOf}
 use Rattle.guest.specs.State.{isDetached, isResetting, isActive, isOpen, isEnded, soundGuest, withState, resetGuest, dataGuest, ackGuest, sentGuest}
-use Rattle.guest_receive.specs.Receive as R
+use Rattle.guest_checks.specs.Checks.{resetRows, dataRows}
+use Rattle.guest_accept.specs.Receive as R
+use Rattle.guest_writes.specs.Writes as W
 use Rattle.guest_calls.specs.Calls as C
+use Rattle.guest_send.specs.Send as S
 use Rattle.guest.specs.Asks as A
 use Rattle.guest.specs.declared.guest.GuestState.the-variants as State
-use Rattle.guest_receive.specs.declared.GuestEvent.the-variants as Event
+use Rattle.guest_accept.specs.declared.GuestEvent.the-variants as Event
 use Rattle.guest.specs.declared.guest.GuestSession.{GuestSession}
-use Rattle.guest_receive.specs.declared.Received.{Received}
+use Rattle.guest_accept.specs.declared.Received.{Received}
 use Rattle.guest_calls.specs.declared.Closed.{Closed}
 use Rattle.guest.specs.declared.guest.WindowAnswer.{WindowAnswer}
 use Rattle.claims.specs.Reading.{heldBytes, Ready, Staged}
@@ -66,13 +69,13 @@ pub data Effect (e : Endpoint) : Call → Step → Type 0 where
       → Effect e (receive piece o lent)
       (pushStep e piece lent (R.answered none (u .answer .consumed) Event.Nothing noIdentity (Piece 0) 0 (withState (e .session) (e .session .state) (u .answer .parser))))
   resets : (piece : List ℕ) (o : Octets piece) (lent : Lent) (u : Push) (h y : List ℕ) → PushFacts (e .session) (stageOf lent (e .stage)) piece u (whole h y)
-      → codeOf (u .answer .«record» .«record_type») ≡ 3 → Passed (R.resetRows (e .session .identity) (u .answer .«record»))
+      → codeOf (u .answer .«record» .«record_type») ≡ 3 → Passed (resetRows (e .session .identity) (u .answer .«record»))
       → Effect e (receive piece o lent)
       (pushStep e piece lent
       (R.answered none (u .answer .consumed) Event.Reset (identityOf (u .answer .«record»)) (Piece 0) 0
       (resetGuest (u .answer .parser) (u .answer .«record»))))
   hands : (piece : List ℕ) (o : Octets piece) (lent : Lent) (u : Push) (h y : List ℕ) → PushFacts (e .session) (stageOf lent (e .stage)) piece u (whole h y)
-      → isActive (e .session .state) ≡ true → codeOf (u .answer .«record» .«record_type») ≡ 5 → Passed (R.dataRows (e .session) (u .answer .«record»))
+      → isActive (e .session .state) ≡ true → codeOf (u .answer .«record» .«record_type») ≡ 5 → Passed (dataRows (e .session) (u .answer .«record»))
       → Effect e (receive piece o lent)
       (pushStep e piece lent
       (R.answered none (u .answer .consumed) Event.Data noIdentity (u .answer .place) (u .answer .«record» .length)
@@ -130,7 +133,7 @@ module _ (e : Endpoint) (invariant : Invariant (e .session)) where
       effect-reset : codeOf (u .answer .«record» .«record_type») ≡ 3 → Got (R.acceptReset g u)
       unfolding R.acceptReset
       effect-reset k =
-          let rows = R.resetRows (g .identity) (u .answer .«record») in
+          let rows = resetRows (g .identity) (u .answer .«record») in
           picked Got (passes (first rows))
           (λ p. resets piece o lent u h y t k (passed rows (refl, (refl, (refl, tt))) p))
           (λ p. fails piece o lent (first rows) u (whole h y) (p, others rows (refl, (refl, (refl, tt)))) t)
@@ -138,7 +141,7 @@ module _ (e : Endpoint) (invariant : Invariant (e .session)) where
       effect-data : isActive (g .state) ≡ true → codeOf (u .answer .«record» .«record_type») ≡ 5 → Got (R.acceptData g u)
       unfolding R.acceptData
       effect-data a k =
-          let rows = R.dataRows g (u .answer .«record») in
+          let rows = dataRows g (u .answer .«record») in
           picked Got (passes (first rows))
           (λ p. hands piece o lent u h y t a k (passed rows (refl, (refl, (refl, (refl, (refl, tt))))) p))
           (λ p. fails piece o lent (first rows) u (whole h y) (p, others rows (refl, (refl, (refl, (refl, (refl, tt)))))) t)
@@ -199,16 +202,16 @@ module _ (e : Endpoint) (invariant : Invariant (e .session)) where
   -- ---- calls that write
   effect-write : (w : Writing) (o : List ℕ) (at : ℕ) (rows : List (Bool × Refusal)) → Numbered rows → Others rows → (g' : GuestSession) (n : ℕ) (bytes : List ℕ)
       → (Passed rows → (next : ℕ) (written : List ℕ) → Effect e (write w o at) (record { answer = sent none n next written; after = endpoint g' (e .stage) }))
-      → Effect e (write w o at) (writeStep (C.writes (first (C.soundRow g ∷ rows)) g g' n bytes o at) at (e .stage))
-  unfolding C.writes
+      → Effect e (write w o at) (writeStep (W.writes (first (W.soundRow g ∷ rows)) g g' n bytes o at) at (e .stage))
+  unfolding W.writes
   effect-write w o at rows numbered no-23 g' n bytes k =
       let same = after-first (soundGuest g) (refusal 23 0 0 0) rows sound in
-      picked (λ (t : C.Outcome). Effect e (write w o at) (writeStep t at (e .stage))) (passes (first (C.soundRow g ∷ rows)))
+      picked (λ (t : W.Outcome). Effect e (write w o at) (writeStep t at (e .stage))) (passes (first (W.soundRow g ∷ rows)))
       (λ p. k (passed rows numbered (ap (λ (r : Refusal). passes r) (sym same) ∙ p)) _ _)
-      (λ p. refuses-write w o at (first (C.soundRow g ∷ rows)) _ (p, ap (λ (r : Refusal). eqb (r .number) 23) same ∙ others rows no-23))
+      (λ p. refuses-write w o at (first (W.soundRow g ∷ rows)) _ (p, ap (λ (r : Refusal). eqb (r .number) 23) same ∙ others rows no-23))
 
   effect-writing : (w : Writing) (o : List ℕ) (at : ℕ) → Effect e (write w o at) (step e (write w o at))
-  unfolding step C.attach C.acknowledge C.send C.credit
+  unfolding step C.attach C.acknowledge S.send S.credit
   effect-writing attach o at = effect-write attach o at _ (refl, (refl, tt)) (refl, (refl, tt)) _ _ _ (λ p next bytes. attaches o at _ next bytes (p .0))
   effect-writing (acknowledge w) o at = effect-write (acknowledge w) o at _ (refl, (refl, (refl, tt))) (refl, (refl, (refl, tt))) _ _ _ (λ p next bytes. acks w o at _ next bytes (p .0) (p .1 .0))
   effect-writing (send bs) o at =

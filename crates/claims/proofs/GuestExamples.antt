@@ -16,12 +16,14 @@ use Rattle.parser.specs.Push.{countsOk, errorOk, soundParser, finish, pushBody,
 use Rattle.parser.specs.declared.parser.Place.the-variants.{Piece}
 use Rattle.session.specs.Checks.{same, identity, noIdentity, identityOk, holds}
 use Rattle.guest.specs.State.{freshGuest, soundGuest}
-use Rattle.guest_receive.specs.Receive as R
+use Rattle.guest_accept.specs.Receive as R
+use Rattle.guest_writes.specs.Writes as W
 use Rattle.guest_calls.specs.Calls as C
+use Rattle.guest_send.specs.Send as S
 use Rattle.guest.specs.Asks as A
 use Rattle.guest.specs.declared.guest.GuestState.the-variants as State
-use Rattle.guest_receive.specs.declared.GuestEvent.{GuestEvent}
-use Rattle.guest_receive.specs.declared.GuestEvent.the-variants as Event
+use Rattle.guest_accept.specs.declared.GuestEvent.{GuestEvent}
+use Rattle.guest_accept.specs.declared.GuestEvent.the-variants as Event
 use Rattle.claims.specs.GuestCalls.{own, other, attach, acknowledge, credit, askState, askOutstanding, Call, receive, write, ask, state, outstanding, Answer, received, sent, told, eventOf, Endpoint, step, fresh}
 use Rattle.claims.specs.GuestHistory.{after, Seen, trace, history, AllOwnOrShorter, noTally, count, noTranscript, transcribe}
 use Rattle.claims.specs.GuestClaims.{ResetRun, answers}
@@ -90,7 +92,7 @@ computed : stageless freshGuest [] calls ≡ expected
 unfolding stageless stagelessStep fromLe toLe overlay first magicOf versionOf typeOf flagsOf instanceOf epochOf sequenceOf lengthOf
     headerBytes windowOk creditOk valueOf typeAt lengthOk allZero payloadChecks headerChecks recordWith countsOk errorOk
     soundParser finish pushBody headWith pushHead push same identityOk holds soundGuest R.acceptReset R.acceptData R.accept
-    R.afterPush R.receive C.writes C.attach C.acknowledge C.send C.credit A.stateOf A.outstandingOf
+    R.afterPush R.receive W.writes C.attach C.acknowledge S.send S.credit A.stateOf A.outstandingOf
 computed = refl
 
 -- ---- the same of a session with a stage

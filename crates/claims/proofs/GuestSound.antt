@@ -17,7 +17,7 @@ use Rattle.parser.specs.Push.{parserOf, countsOk, errorOk, soundParser, Push, h
 use Rattle.parser.specs.declared.parser.RecordParser.{RecordParser}
 use Rattle.session.specs.Checks.{holds}
 use Rattle.guest.specs.State.{freshGuest, soundGuest}
-use Rattle.guest_receive.specs.Receive.{Receive, receiveRows, receive, receiveOf}
+use Rattle.guest_accept.specs.Receive.{Receive, receiveRows, receive, receiveOf}
 use Rattle.guest.specs.declared.guest.GuestSession.{GuestSession}
 use Rattle.claims.specs.GuestCalls.{Call, refusalOf, Endpoint, Step, step, fresh}
 use Rattle.claims.specs.GuestHistory.{after}

@@ -18,8 +18,10 @@ use Rattle.wire.proofs.Rows.{passed, picked}
 use Rattle.parser.specs.Push.{heldIn, payloadAt, bufferedOf}
 use Rattle.session.specs.Checks.{nextRow}
 use Rattle.guest.specs.State.{isDetached, isResetting, isActive, isEnded, soundGuest}
-use Rattle.guest_receive.specs.Receive as R
+use Rattle.guest_accept.specs.Receive as R
+use Rattle.guest_writes.specs.Writes as W
 use Rattle.guest_calls.specs.Calls as C
+use Rattle.guest_send.specs.Send as S
 use Rattle.guest.specs.declared.guest.GuestSession.{GuestSession}
 use Rattle.guest_calls.specs.declared.Closed.{Closed}
 use Rattle.claims.specs.GuestCalls.{own, other, Writing, attach, acknowledge, send, credit, Call, receive, write, disconnect, ask}
@@ -68,12 +70,12 @@ short-receive g n held piece l = rw (short-stops g n l)
 
 -- the calls that write and disconnect leave the parser
 writes-keep : (r : Refusal) (g g' : GuestSession) (n : ℕ) (bytes o : List ℕ) (at : ℕ) → g' .parser ≡ g .parser
-    → C.writes r g g' n bytes o at .sent .session .parser ≡ g .parser
-unfolding C.writes
-writes-keep r g g' n bytes o at e = picked (λ (t : C.Outcome). t .sent .session .parser ≡ g .parser) (passes r) (λ _. e) (λ _. refl)
+    → W.writes r g g' n bytes o at .sent .session .parser ≡ g .parser
+unfolding W.writes
+writes-keep r g g' n bytes o at e = picked (λ (t : W.Outcome). t .sent .session .parser ≡ g .parser) (passes r) (λ _. e) (λ _. refl)
 
 writing-keeps : (w : Writing) (g : GuestSession) (o : List ℕ) (at : ℕ) → ruleOf w g o at .sent .session .parser ≡ g .parser
-unfolding C.attach C.acknowledge C.send C.credit
+unfolding C.attach C.acknowledge S.send S.credit
 writing-keeps attach g o at = writes-keep _ g _ _ _ o at refl
 writing-keeps (acknowledge w) g o at = writes-keep _ g _ _ _ o at refl
 writing-keeps (send bs) g o at = writes-keep _ g _ _ _ o at refl
@@ -138,17 +140,17 @@ sentStep r g g' n bytes at =
     (record { answer = sent r 0 0 []; after = endpoint g [] })
 
 writes-as : (rows : List (Bool × Refusal)) (g g' : GuestSession) (n : ℕ) (bytes o : List ℕ) (at : ℕ) → (passes (first rows) ≡ true → at ≤ length o)
-    → writeStep (C.writes (first rows) g g' n bytes o at) at [] ≡ sentStep (first rows) g g' n bytes at
-unfolding C.writes
+    → writeStep (W.writes (first rows) g g' n bytes o at) at [] ≡ sentStep (first rows) g g' n bytes at
+unfolding W.writes
 writes-as rows g g' n bytes o at k =
-    picked₂ (λ (t : C.Outcome) (x : Step). writeStep t at [] ≡ x) (passes (first rows))
+    picked₂ (λ (t : W.Outcome) (x : Step). writeStep t at [] ≡ x) (passes (first rows))
     (λ p j. record { answer = sent none n (at + length bytes) (written-is o bytes at (k p) j); after = endpoint g' [] })
     (λ p j. record { answer = sent (first rows) 0 0 (nothing-written o at j); after = endpoint g [] })
 
 -- rows that look at the output's length alone, and let a record pass only where the position is in the output
 alike-writes : (rows : ℕ → List (Bool × Refusal)) (g g' : GuestSession) (n : ℕ) (bytes o o' : List ℕ) (at : ℕ)
     → ((m : ℕ) → passes (first (rows m)) ≡ true → at ≤ m) → length o ≡ length o'
-    → writeStep (C.writes (first (rows (length o))) g g' n bytes o at) at [] ≡ writeStep (C.writes (first (rows (length o'))) g g' n bytes o' at) at []
+    → writeStep (W.writes (first (rows (length o))) g g' n bytes o at) at [] ≡ writeStep (W.writes (first (rows (length o'))) g g' n bytes o' at) at []
 alike-writes rows g g' n bytes o o' at k e =
     writes-as (rows (length o)) g g' n bytes o at (k (length o))
     ∙ ap (λ (m : ℕ). sentStep (first (rows m)) g g' n bytes at) e
@@ -159,26 +161,26 @@ room-last at n m e = omega (arith, leb-true (at + n) m e)
 
 alike-writing : (w : Writing) (g : GuestSession) (o o' : List ℕ) (at : ℕ) → length o ≡ length o'
     → writeStep (ruleOf w g o at) at [] ≡ writeStep (ruleOf w g o' at) at []
-unfolding C.attach C.acknowledge C.send C.credit
+unfolding C.attach C.acknowledge S.send S.credit
 alike-writing attach g o o' at =
-    let rows : ℕ → List (Bool × Refusal) = λ m. C.soundRow g ∷ (isDetached (g .state), refusal 20 0 0 0) ∷ (leb (at + 44) m, refusal 22 0 0 0) ∷ [] in
+    let rows : ℕ → List (Bool × Refusal) = λ m. W.soundRow g ∷ (isDetached (g .state), refusal 20 0 0 0) ∷ (leb (at + 44) m, refusal 22 0 0 0) ∷ [] in
     alike-writes rows g _ _ _ o o' at (λ m e. room-last at 44 m (passed (rows m) (refl, (refl, (refl, tt))) e .1 .1 .0))
 alike-writing (acknowledge w) g o o' at =
     let rows : ℕ → List (Bool × Refusal) = λ m.
-    C.soundRow g ∷ (isResetting (g .state), refusal 20 0 0 0) ∷ (windowOk w, refusal 8 w 0 0) ∷ (leb (at + 48) m, refusal 22 0 0 0) ∷ []
+    W.soundRow g ∷ (isResetting (g .state), refusal 20 0 0 0) ∷ (windowOk w, refusal 8 w 0 0) ∷ (leb (at + 48) m, refusal 22 0 0 0) ∷ []
     in
     alike-writes rows g _ _ _ o o' at (λ m e. room-last at 48 m (passed (rows m) (refl, (refl, (refl, (refl, tt)))) e .1 .1 .1 .0))
 alike-writing (send bs) g o o' at =
-    let n = 44 + C.sendCount bs in
+    let n = 44 + S.sendCount bs in
     let rows : ℕ → List (Bool × Refusal) = λ m.
-    C.soundRow g ∷
+    W.soundRow g ∷
     (isActive (g .state), refusal 20 0 0 0) ∷
     nextRow 5 (g .«send_sequence» .0) ∷ (leb 1 (length bs), refusal 5 5 0 0) ∷ (leb (at + n) m, refusal 22 0 0 0) ∷ []
     in
     alike-writes rows g _ _ _ o o' at (λ m e. room-last at n m (passed (rows m) (refl, (refl, (refl, (refl, (refl, tt))))) e .1 .1 .1 .1 .0))
 alike-writing (credit n) g o o' at =
     let rows : ℕ → List (Bool × Refusal) = λ m.
-    C.soundRow g ∷
+    W.soundRow g ∷
     (isActive (g .state), refusal 20 0 0 0) ∷
     (leb 1 n && leb n (g .outstanding), refusal 18 (g .outstanding) n 0) ∷ nextRow 9 (g .«send_sequence» .0) ∷ (leb (at + 48) m, refusal 22 0 0 0) ∷ []
     in

@@ -12,7 +12,8 @@ use Rattle.wire.specs.declared.refusal.Refusal.{Refusal}
 use Rattle.wire.proofs.Rows.{passed, picked}
 use Rattle.types.specs.Types.{codeOf}
 use Rattle.parser.specs.Push.{Push, push, pushStage, heldIn, payloadAt}
-use Rattle.guest_receive.specs.Receive as R
+use Rattle.guest_checks.specs.Checks.{resetRows, dataRows}
+use Rattle.guest_accept.specs.Receive as R
 use Rattle.guest.specs.declared.guest.GuestSession.{GuestSession}
 use Rattle.claims.specs.Reading.{Staged}
 use Rattle.claims.specs.GuestCalls.{own, other, Call, Endpoint, Step, step}
@@ -69,12 +70,12 @@ module _ (g : GuestSession) (piece : List ℕ) (u : Push) (left : List ℕ) (roo
   agrees-accept c =
       picked (λ (t : R.Receive). StageAgrees piece t left) (passes (first (R.typeRow (g .state) (codeOf (u .answer .«record» .«record_type»)) ∷ [])))
       (λ _. picked (λ (t : R.Receive). StageAgrees piece t left) (R.isReset (u .answer .«record»))
-      (λ _. picked (λ (t : R.Receive). StageAgrees piece t left) (passes (first (R.resetRows (g .identity) (u .answer .«record»))))
+      (λ _. picked (λ (t : R.Receive). StageAgrees piece t left) (passes (first (resetRows (g .identity) (u .answer .«record»))))
       (λ _. record { held = l .held; payload = refl })
-      (λ _. agrees-fail (first (R.resetRows (g .identity) (u .answer .«record»)))))
-      (λ _. picked (λ (t : R.Receive). StageAgrees piece t left) (passes (first (R.dataRows g (u .answer .«record»))))
+      (λ _. agrees-fail (first (resetRows (g .identity) (u .answer .«record»)))))
+      (λ _. picked (λ (t : R.Receive). StageAgrees piece t left) (passes (first (dataRows g (u .answer .«record»))))
       (λ _. record { held = l .held; payload = l .lies c })
-      (λ _. agrees-fail (first (R.dataRows g (u .answer .«record»))))))
+      (λ _. agrees-fail (first (dataRows g (u .answer .«record»))))))
       (λ _. agrees-fail (first (R.typeRow (g .state) (codeOf (u .answer .«record» .«record_type»)) ∷ [])))
 
   agrees-push : StageAgrees piece (R.afterPush g u) left

@@ -20,7 +20,7 @@ use Rattle.parser.specs.Push.{Push, pushStage, heldIn}
 use Rattle.session.specs.Checks.{same, identity, identityOf}
 use Rattle.session.specs.declared.session.Identity.{Identity}
 use Rattle.guest.specs.State.{isLive}
-use Rattle.guest_receive.specs.Receive.{resetRows, dataRows}
+use Rattle.guest_checks.specs.Checks.{resetRows, dataRows}
 use Rattle.guest.specs.declared.guest.GuestSession.{GuestSession}
 use Rattle.claims.specs.Reading.{heldBytes, encoded}
 use Rattle.claims.specs.GuestCalls.{Endpoint}

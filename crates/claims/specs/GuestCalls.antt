@@ -10,13 +10,15 @@ use Rattle.parser.specs.declared.parser.Place.{Place}
 use Rattle.parser.specs.declared.parser.Count.{Count}
 use Rattle.session.specs.declared.session.Identity.{Identity}
 use Rattle.guest.specs.State.{freshGuest}
-use Rattle.guest_receive.specs.Receive as Receive
+use Rattle.guest_accept.specs.Receive as Receive
+use Rattle.guest_writes.specs.Writes as Writes
 use Rattle.guest_calls.specs.Calls as Calls
+use Rattle.guest_send.specs.Send as Sends
 use Rattle.guest.specs.Asks as Asks
-use Rattle.guest_receive.specs.declared.GuestEvent.{GuestEvent}
-use Rattle.guest_receive.specs.declared.GuestEvent.the-variants as Event
+use Rattle.guest_accept.specs.declared.GuestEvent.{GuestEvent}
+use Rattle.guest_accept.specs.declared.GuestEvent.the-variants as Event
 use Rattle.guest.specs.declared.guest.GuestSession.{GuestSession}
-use Rattle.guest_receive.specs.declared.Received.{Received}
+use Rattle.guest_accept.specs.declared.Received.{Received}
 use Rattle.guest_calls.specs.declared.Closed.{Closed}
 use Rattle.guest.specs.declared.guest.StateAnswer.{StateAnswer}
 use Rattle.guest.specs.declared.guest.IdentityAnswer.{IdentityAnswer}
@@ -119,11 +121,11 @@ abbrev pub stageLeft : Lent → List ℕ → List ℕ → List ℕ
 stageLeft own s left = left
 stageLeft (other z) s left = s
 
-abbrev pub ruleOf : Writing → GuestSession → List ℕ → ℕ → Calls.Outcome
+abbrev pub ruleOf : Writing → GuestSession → List ℕ → ℕ → Writes.Outcome
 ruleOf attach g o at = Calls.attach g o at
 ruleOf (acknowledge w) g o at = Calls.acknowledge g w o at
-ruleOf (send bytes) g o at = Calls.send g bytes o at
-ruleOf (credit n) g o at = Calls.credit g n o at
+ruleOf (send bytes) g o at = Sends.send g bytes o at
+ruleOf (credit n) g o at = Sends.credit g n o at
 
 abbrev pub tell : GuestSession → Ask → Told
 tell g askState = state (Asks.stateOf g)
@@ -143,7 +145,7 @@ receiveStep r piece lent s =
       after = endpoint (r .received .session) (stageLeft lent s (r .stage));
     }
 
-abbrev pub writeStep : Calls.Outcome → ℕ → List ℕ → Step
+abbrev pub writeStep : Writes.Outcome → ℕ → List ℕ → Step
 writeStep r at s =
     record {
       answer = sent (r .sent .refusal) (r .sent .count) (r .sent .next) (take (r .sent .next - at) (drop at (r .output)));

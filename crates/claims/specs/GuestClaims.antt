@@ -13,7 +13,7 @@ use Rattle.record.specs.Record.{headerChecks}
 use Rattle.parser.specs.Push.{bufferedOf}
 use Rattle.guest.specs.State.{isFailed, soundGuest}
 use Rattle.guest.specs.Asks.{outstandingOf}
-use Rattle.guest_receive.specs.declared.GuestEvent.the-variants as Event
+use Rattle.guest_accept.specs.declared.GuestEvent.the-variants as Event
 use Rattle.guest.specs.declared.guest.GuestSession.{GuestSession}
 use Rattle.guest.specs.declared.guest.OutstandingAnswer.{OutstandingAnswer}
 use Rattle.claims.specs.GuestCalls.{own, other, Writing, Ask, Call, receive, write, disconnect, ask, Answer, refusalOf, eventOf, Endpoint, step, fresh}

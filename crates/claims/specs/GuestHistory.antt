@@ -7,8 +7,8 @@ use Rattle.wire.specs.Refusals.{pick, passes}
 use Rattle.wire.specs.Header.{instanceOf, epochOf, sequenceOf}
 use Rattle.protocol.specs.Outer.{maxPayload}
 use Rattle.record.specs.Record.{recordBytes}
-use Rattle.guest_receive.specs.declared.GuestEvent.{GuestEvent}
-use Rattle.guest_receive.specs.declared.GuestEvent.the-variants as Event
+use Rattle.guest_accept.specs.declared.GuestEvent.{GuestEvent}
+use Rattle.guest_accept.specs.declared.GuestEvent.the-variants as Event
 use Rattle.claims.specs.GuestCalls.{own, other, Writing, attach, acknowledge, send, credit, Call, receive, write, disconnect, ask}
 use Rattle.claims.specs.GuestCalls.{Answer, refusalOf, eventOf, consumedOf, payloadOf, Endpoint, step}
 

@@ -13,8 +13,10 @@ use Rattle.record.specs.Record.{allZero, payloadChecks, headerChecks, recordWit
 use Rattle.parser.specs.Push.{countsOk, errorOk, soundParser, finish, pushBody, headWith, pushHead, push, neededOf, counted}
 use Rattle.session.specs.Checks.{same, identityOk, holds}
 use Rattle.guest.specs.State.{soundGuest}
-use Rattle.guest_receive.specs.Receive.{acceptReset, acceptData, accept, afterPush, receive}
-use Rattle.guest_calls.specs.Calls.{writes, attach, acknowledge, send, credit}
+use Rattle.guest_accept.specs.Receive.{acceptReset, acceptData, accept, afterPush, receive}
+use Rattle.guest_writes.specs.Writes.{writes}
+use Rattle.guest_calls.specs.Calls.{attach, acknowledge}
+use Rattle.guest_send.specs.Send.{send, credit}
 use Rattle.wire.specs.declared.refusal.Refusal.{Refusal}
 use Rattle.parser.specs.Push.{Push}
 use Rattle.examples.specs.Examples.{MarkedExamples}

@@ -16,11 +16,12 @@ use Rattle.parser.specs.declared.parser.RecordParser.{RecordParser}
 use Rattle.session.specs.Checks.{identity}
 use Rattle.session.specs.declared.session.Identity.{Identity}
 use Rattle.guest.specs.State.{freshGuest}
-use Rattle.guest_receive.specs.Receive.{Receive, receive}
-use Rattle.guest_calls.specs.Calls.{attach, acknowledge, send, credit}
+use Rattle.guest_accept.specs.Receive.{Receive, receive}
+use Rattle.guest_calls.specs.Calls.{attach, acknowledge}
+use Rattle.guest_send.specs.Send.{send, credit}
 use Rattle.guest.specs.declared.guest.GuestState.{GuestState}
 use Rattle.guest.specs.declared.guest.GuestState.the-variants as State
-use Rattle.guest_receive.specs.declared.GuestEvent.the-variants as Event
+use Rattle.guest_accept.specs.declared.GuestEvent.the-variants as Event
 use Rattle.guest.specs.declared.guest.GuestSession.{GuestSession}
 
 -- ---- what the examples speak of

@@ -1,5 +1,5 @@
-// The guest's session by value, whether it is sound, and what it answers when asked. `guest_receive`
-// and `guest_calls` have the operations that change it.
+// The guest's session by value, whether it is sound, and what it answers when asked. `guest_receive`,
+// `guest_calls` and `guest_send` have the operations that change it.
 use parser::parser::Count;
 use parser::parser::RecordParser;
 use payloads::OUTER_MAX_RECEIVE_WINDOW;

@@ -1,24 +1,21 @@
-// Entries that change the caller's guest session (01, "thin entries for receive and credit change
-// the caller's session"). Each passes a copy of the session to the operation by value and stores
-// the session of its answer back. The functions by value over them are for callers that hold the
-// session themselves.
+// The entry for receive that changes the caller's guest session (01, "thin entries for receive and
+// credit change the caller's session"). It passes a copy of the session to the operation by value
+// and stores the session of its answer back. The function by value over it is for callers that hold
+// the session themselves.
 use guest::guest::GuestSession;
-use guest_calls::Sent;
-use guest_calls::credit;
-use guest_receive::GuestEvent;
-use guest_receive::Received;
+use guest_accept::GuestEvent;
+use guest_accept::Received;
 use guest_receive::receive;
 use parser::parser::Place;
 use session::session::Identity;
 use wire::refusal::Refusal;
 ghost use mathlib.Core.Path.{_≡_};
-ghost use Rattle.guest_receive.specs.Receive.{receiveOf};
-ghost use Rattle.guest_receive.specs.Receive as receiving;
-ghost use Rattle.guest_calls.specs.Calls.{outcome, credit};
-ghost use Rattle.guest_entry.specs.Answers.{receiveAnswer, creditAnswer};
+ghost use Rattle.guest_accept.specs.Receive.{receiveOf};
+ghost use Rattle.guest_accept.specs.Receive as receiving;
+ghost use Rattle.guest_entry.specs.Answers.{receiveAnswer};
 
 // What a receive answers beside the session. The bytes of data are had by `payload` of
-// guest_receive.
+// guest_accept.
 pub struct ReceiveAnswer {
     pub refusal: Refusal,
     pub consumed: usize,
@@ -26,13 +23,6 @@ pub struct ReceiveAnswer {
     pub identity: Identity,
     pub place: Place,
     pub length: usize,
-}
-
-// What a credit answers beside the session: a count of 0, and the position after the record.
-pub struct CreditAnswer {
-    pub refusal: Refusal,
-    pub count: usize,
-    pub next: usize,
 }
 
 // Takes bytes of the piece up to the end of one record, and reports what the record says.
@@ -54,27 +44,6 @@ pub fn receive_in(session: &mut GuestSession, piece: &[u8], stage: &mut [u8]) ->
     }
 }
 
-// Writes a CREDIT record: returns consumed bytes to the window.
-pub fn credit_in(
-    session: &mut GuestSession,
-    bytes: u32,
-    output: &mut [u8],
-    at: usize,
-) -> CreditAnswer
-    ensures { λ r. ⌜ r ≡ creditAnswer (credit (now (session .entry)) bytes (now (output .entry)) at .sent) ⌝ }
-    ensures { λ _. ⌜ now (session .exit) ≡ credit (now (session .entry)) bytes (now (output .entry)) at .sent .session ⌝ }
-    ensures { λ _. ⌜ now (output .exit) ≡ credit (now (session .entry)) bytes (now (output .entry)) at .output ⌝ }
-{
-    let before = *session;
-    let done = credit(before, bytes, output, at);
-    *session = done.session;
-    CreditAnswer {
-        refusal: done.refusal,
-        count: done.count,
-        next: done.next,
-    }
-}
-
 // `receive_in` on a session that is passed and answered by value.
 pub fn receive_once(session: GuestSession, piece: &[u8], stage: &mut [u8]) -> Received
     ensures { λ r. ⌜ receiving.outcome r (now (stage .exit)) ≡ receiveOf session (now (piece .entry)) (now (stage .entry)) ⌝ }
@@ -88,20 +57,6 @@ pub fn receive_once(session: GuestSession, piece: &[u8], stage: &mut [u8]) -> Re
         identity: answer.identity,
         place: answer.place,
         length: answer.length,
-        session: s,
-    }
-}
-
-// `credit_in` on a session that is passed and answered by value.
-pub fn credit_once(session: GuestSession, bytes: u32, output: &mut [u8], at: usize) -> Sent
-    ensures { λ r. ⌜ outcome r (now (output .exit)) ≡ credit session bytes (now (output .entry)) at ⌝ }
-{
-    let mut s = session;
-    let answer = credit_in(&mut s, bytes, output, at);
-    Sent {
-        refusal: answer.refusal,
-        count: answer.count,
-        next: answer.next,
         session: s,
     }
 }

@@ -1,41 +1,43 @@
 -- Why the quick way of a receive answers what its rule asks. A step is a push whose answer is known from few tests: it waits, or it completes DATA that passes the rows.
--- It leans on the cases of the push (`Rattle.parser.proofs.Cases`) and on those of a receive (proofs/Receiving). Assumes nothing.
-use Prim.Native.Nat.{ℕ, _+_, _-_, _≤_, _<_, min}
+-- It leans on the cases of the push (`Rattle.parser.proofs.Cases`) and on those of a receive (`Rattle.guest_accept.proofs.Receiving`). Assumes nothing.
+use Prim.Native.Nat.{ℕ, _+_, _-_, _^_, _≤_, _<_, min}
 use mathlib.Core.Path.{_≡_, refl, sym, ap, subst, _∙_}
 use mathlib.Core.Bool.{Bool, true, false, not, _&&_}
-use mathlib.Core.List.{List, [], _∷_}
+use mathlib.Core.List.{List}
 use native.Mathlib.Omega.{arith}
 use lib.ListN.{length, take, drop}
 use lib.Dec.{eqb, leb, ltb}
-use borrow.Author.Tests.{eq-eqb, eqb-true, lt-ltb, ltb-true, le-leb, leb-true, not-true, not-false}
+use borrow.Author.Tests.{eq-eqb, eqb-true, lt-ltb, ltb-true, leb-true, not-true, not-false}
 use Rattle.wire.specs.Bytes.{copied}
-use Rattle.wire.specs.Refusals.{pick, none, first, passes}
+use Rattle.wire.specs.Refusals.{none, first, passes}
 use Rattle.wire.specs.Header.{typeOf, instanceOf, epochOf, sequenceOf, lengthOf}
 use Rattle.wire.specs.declared.Epoch.{Epoch}
 use Rattle.wire.specs.declared.Sequence.{Sequence}
 use Rattle.wire.proofs.Rows.{Passed, passed, pass-all, and-left, and-right}
 use Rattle.types.specs.Types.{codeOf}
 use Rattle.record.specs.Record.{headerChecks, payloadChecks, recordWith, recordOf}
-use Rattle.parser.specs.Push.{parserOf, soundParser, clear, waiting, failed, completed, finish, pushBody, bodyStage, headTaken, headWith, pushHead, headStage, pushOf}
+use Rattle.parser.specs.Push.{parserOf, soundParser, clear, waiting, completed, finish, pushBody, bodyStage, headTaken, headWith, pushOf}
 use Rattle.parser.specs.Push as pushing
 use Rattle.parser.specs.declared.parser.Place.{Place}
 use Rattle.parser.specs.declared.parser.Place.the-variants.{Piece, Stage}
 use Rattle.parser.specs.declared.parser.Pushed.{Pushed}
-use Rattle.parser.proofs.Cases.{type-code, body-waits, body-piece, body-stage, head-waits, head-checked, sound-goes, sound-room, open-taken}
+use Rattle.parser.specs.declared.parser.RecordParser.{RecordParser}
+use Rattle.parser.proofs.Cases.{type-code, length-low, sound-passes, body-waits, body-piece, body-stage, head-waits, head-checked, sound-goes, sound-room, open-taken}
 use Rattle.session.specs.Checks.{same, noIdentity, lastSequence}
 use Rattle.wire.specs.declared.refusal.Refusal.{Refusal}
 use Rattle.session.specs.declared.session.Identity.{Identity}
 use Rattle.guest.specs.State.{code, activeGuest, withState}
 use Rattle.guest.specs.declared.guest.GuestSession.{GuestSession}
 use Rattle.guest.proofs.Soundness.{active-state, active-low, active-sound}
-use Rattle.guest_receive.specs.Receive.{dataRows, told, afterPush, outcome, receiveOf}
+use Rattle.guest_checks.specs.Checks.{dataRows}
+use Rattle.guest_accept.specs.Receive.{told, afterPush, outcome, receiveOf}
 use Rattle.guest_receive.specs.Flow.{flowing, takesData, after44, acceptedWith, answerOf, withSession, notTaken, waitsAt, handsOut, steppedGuest, stepped, Stepped}
 use Rattle.guest_receive.specs.declared.Answer.{Answer}
-use Rattle.guest_receive.specs.declared.GuestEvent.{GuestEvent}
-use Rattle.guest_receive.specs.declared.GuestEvent.the-variants as Event
-use Rattle.guest_receive.specs.declared.Received.{Received}
+use Rattle.guest_accept.specs.declared.GuestEvent.{GuestEvent}
+use Rattle.guest_accept.specs.declared.GuestEvent.the-variants as Event
+use Rattle.guest_accept.specs.declared.Received.{Received}
 use Rattle.guest_receive.specs.declared.Step.{Step}
-use Rattle.guest_receive.proofs.Receiving.{push-waits, push-completes, accept-data, data-done, keep-waits, receive-pushes}
+use Rattle.guest_accept.proofs.Receiving.{push-waits, push-completes, accept-data, data-done, receive-pushes}
 
 -- ---- whether DATA may flow
 module _ (g : GuestSession) (n : ℕ) (b : Bool) (eb : b ≡ activeGuest g) where
@@ -259,6 +261,20 @@ module _ (g : GuestSession) (piece stage : List ℕ) (n : ℕ) (h : List ℕ) (f
     subst (λ (x : List ℕ). g .parser .«payload_len» ≤ lengthOf x) (sym eh) (sound-room (g .parser) (flow-sound g (length stage) f) piece),
     flow-whole g (length stage) f,
   )
+
+-- ---- a piece that leaves the payload in progress unfinished
+keep-waits : (g : GuestSession) (k n : ℕ) (y z : Refusal) (i : Identity) (s : GuestSession) → y ≡ none → z ≡ none → i ≡ noIdentity
+    → s ≡ withState g (g .state) (parserOf (g .parser .header) 44 k z)
+    → record { refusal = y; consumed = n; event = Event.Nothing; identity = i; place = Piece 0; length = 0; session = s } ≡ afterPush g (told (waiting (g .parser .header) 44 k n)) .answer
+keep-waits g k n y z i s ey ez ei es =
+    push-waits g (waiting (g .parser .header) 44 k n) y i s refl refl ey ei (es ∙ ap (λ (w : Refusal). withState g (g .state) (parserOf (g .parser .header) 44 k w)) ez)
+
+pub stays-low : (p : RecordParser) (n : ℕ) (b : Bool) → soundParser p ≡ true → b ≡ eqb (p .«header_len») 44 && ltb (p .«payload_len» + n) (lengthOf (p .header)) → b ≡ true → p .«payload_len» + n < 2 ^ 32
+stays-low p n b ok e q =
+    let o : eqb (p .«header_len») 44 && ltb (p .«payload_len» + n) (lengthOf (p .header)) ≡ true = sym e ∙ q in
+    let full : p .«header_len» ≡ 44 = eqb-true (p .«header_len») 44 (and-left (eqb (p .«header_len») 44) (ltb (p .«payload_len» + n) (lengthOf (p .header))) o) in
+    let low : p .«payload_len» + n < lengthOf (p .header) = ltb-true (p .«payload_len» + n) (lengthOf (p .header)) (and-right (eqb (p .«header_len») 44) (ltb (p .«payload_len» + n) (lengthOf (p .header))) o) in
+    omega (arith, length-low (p .header) (sound-passes p true (sym ok) refl full))
 
 -- ---- the ways of a receive
 module _ (g : GuestSession) (piece stage : List ℕ) where

@@ -1,2 +1,1 @@
 pub mod Flowing
-pub mod Receiving

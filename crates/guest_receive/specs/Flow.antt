@@ -18,11 +18,12 @@ use Rattle.parser.specs.declared.parser.Place.the-variants.{Piece}
 use Rattle.session.specs.Checks.{noIdentity}
 use Rattle.guest.specs.State.{activeGuest}
 use Rattle.guest.specs.declared.guest.GuestSession.{GuestSession}
-use Rattle.guest_receive.specs.Receive.{dataRows, told, afterPush, outcome}
-use Rattle.guest_receive.specs.declared.GuestEvent.{GuestEvent}
-use Rattle.guest_receive.specs.declared.GuestEvent.the-variants as Event
+use Rattle.guest_checks.specs.Checks.{dataRows}
+use Rattle.guest_accept.specs.Receive.{told, afterPush, outcome}
+use Rattle.guest_accept.specs.declared.GuestEvent.{GuestEvent}
+use Rattle.guest_accept.specs.declared.GuestEvent.the-variants as Event
+use Rattle.guest_accept.specs.declared.Received.{Received}
 use Rattle.guest_receive.specs.declared.Answer.{Answer}
-use Rattle.guest_receive.specs.declared.Received.{Received}
 use Rattle.guest_receive.specs.declared.Step.{Step}
 
 -- an Active session that is sound, with no header held but one of DATA, and a whole stage

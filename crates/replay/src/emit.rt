@@ -11,7 +11,7 @@ use replay_answer::frame::cut;
 // A payload, as the operation's layer hands it over.
 fn handed<'a>(op: u8, input: &'a [u8], stage: &'a [u8], place: Place, count: usize) -> &'a [u8] {
     if op == 11 {
-        return guest_receive::payload(input, stage, place, count);
+        return guest_accept::payload(input, stage, place, count);
     }
     if op == 21 {
         return host_receive::payload(input, stage, place, count);

@@ -2,12 +2,12 @@
 use guest::guest::GuestSession;
 use guest::guest::GuestState;
 use guest::guest::WindowAnswer;
+use guest_accept::GuestEvent;
+use guest_accept::Received;
 use guest_calls::Closed;
-use guest_calls::Sent;
-use guest_entry::credit_once;
+use guest_credit_entry::credit_once;
 use guest_entry::receive_once;
-use guest_receive::GuestEvent;
-use guest_receive::Received;
+use guest_writes::Sent;
 use replay_answer::answer::Answer;
 use replay_answer::answer::Ask;
 use replay_answer::answer::COUNT;
@@ -90,8 +90,8 @@ fn write(g: GuestSession, op: u8, value: u32, input: &[u8], output: &mut [u8], a
     match op {
         10 => guest_calls::attach(g, output, at),
         12 => guest_calls::acknowledge(g, value, output, at),
-        13 => guest_calls::send(g, input, output, at),
-        14 => guest_calls::credit(g, value, output, at),
+        13 => guest_send::send(g, input, output, at),
+        14 => guest_send::credit(g, value, output, at),
         _ => credit_once(g, value, output, at),
     }
 }

@@ -1,5 +1,6 @@
 -- `guest_calls::acknowledge` meets its contract. Each way it returns is a case of its rule: `ack-stops`, `ack-refused`, `ack-done` of proofs/Calling. Assumes nothing.
-use Rattle.guest_calls.proofs.Calling.{told-of, ack-stops, ack-refused, ack-done}
+use Rattle.guest_writes.proofs.Writing.{told-of}
+use Rattle.guest_calls.proofs.Calling.{ack-stops, ack-refused, ack-done}
 use borrow.Author.Needs.{needs}
 use Rattle.guest_calls.proofs.acknowledge.Statement.{statement}
 use Rattle.guest_calls.proofs.acknowledge.Tie as tie

@@ -1,5 +1,6 @@
 -- `guest_calls::attach` meets its contract. Each way it returns is a case of its rule: `attach-stops`, `attach-22`, `attach-done` of proofs/Calling. Assumes nothing.
-use Rattle.guest_calls.proofs.Calling.{told-of, attach-stops, attach-22, attach-done}
+use Rattle.guest_writes.proofs.Writing.{told-of}
+use Rattle.guest_calls.proofs.Calling.{attach-stops, attach-22, attach-done}
 use borrow.Author.Needs.{needs}
 use Rattle.guest_calls.proofs.attach.Statement.{statement}
 use Rattle.guest_calls.proofs.attach.Tie as tie

@@ -48,15 +48,15 @@ use denote.Triple.Walked.{says, needs, Stays, stay-ref, stay-none, stay-none-ref
 use denote.Exit.{yes}
 use denote.Signature.{plain}
 use denote.Signature.Array.{arrayOf}
-use Rattle.guest_receive.specs.Receive.{Outcome, outcome, receiveOf}
+use Rattle.guest_accept.specs.Receive.{Outcome, outcome, receiveOf}
 use Rattle.guest_entry.specs.Answers.{receiveAnswer}
 use Rattle.guest.specs.declared.guest.GuestSession.{GuestSession}
-use Rattle.guest_receive.specs.declared.Received.{Received}
+use Rattle.guest_accept.specs.declared.Received.{Received}
 use Rattle.guest_entry.specs.declared.ReceiveAnswer.{ReceiveAnswer}
 use Rattle.guest.proofs.guest.GuestSession as S
 use Rattle.guest.proofs.guest.GuestSession.Laws as S′
-use Rattle.guest_receive.proofs.Received as D
-use Rattle.guest_receive.proofs.Received.Laws as D′
+use Rattle.guest_accept.proofs.Received as D
+use Rattle.guest_accept.proofs.Received.Laws as D′
 use Rattle.guest_entry.proofs.ReceiveAnswer as R
 use Rattle.guest_entry.proofs.ReceiveAnswer.Laws as R′
 use Rattle.guest_entry.proofs.receive_in as callee

@@ -1,11 +1,12 @@
 -- `guest_receive::data_step` meets its contract. Each way it returns is a case of proofs/Flowing: not taken, payload bytes to come, the payload in the piece, the payload in the stage. Assumes nothing.
+use Rattle.guest.proofs.Soundness.{active-low}
 use Rattle.guest_receive.proofs.Flowing.{step-not, data-waits, data-piece, data-stage, data-next}
 use borrow.Author.Needs.{needs}
 use Rattle.guest_receive.proofs.data_step.Statement.{statement}
 use Rattle.guest_receive.proofs.data_step.Tie as tie
 
 takes-requires : tie.Need-takes-requires
-takes-requires c κs = search needs
+takes-requires c κs = search active-low
 
 not-taken-requires : tie.Need-not-taken-requires
 not-taken-requires c κs = search needs

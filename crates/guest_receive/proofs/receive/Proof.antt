@@ -6,8 +6,7 @@ use native.Mathlib.Omega.{arith}
 use lib.ListN.{length}
 use Rattle.parser.proofs.Cases.{sound-count}
 use Rattle.guest.proofs.Soundness.{active-window}
-use Rattle.guest_receive.proofs.Receiving.{stays-low}
-use Rattle.guest_receive.proofs.Flowing.{flow-told, flow-active, flow-sound, open-way, step-way, any-way, way-out}
+use Rattle.guest_receive.proofs.Flowing.{flow-told, flow-active, flow-sound, stays-low, open-way, step-way, any-way, way-out}
 use borrow.Author.Needs.{needs}
 use Rattle.guest_receive.proofs.receive.Statement.{statement}
 use Rattle.guest_receive.proofs.receive.Tie as tie

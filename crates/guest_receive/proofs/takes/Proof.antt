@@ -1,4 +1,5 @@
 -- `guest_receive::takes` meets its contract: where the last test is reached, every row of DATA passes with it (`takes-all`). Assumes nothing.
+use mathlib.Core.Path.{refl}
 use Rattle.guest_receive.proofs.Flowing.{takes-all}
 use borrow.Author.Needs.{needs}
 use Rattle.guest_receive.proofs.takes.Statement.{statement}
@@ -34,15 +35,15 @@ returns-4 c e = cc
 returns-5 : tie.Need-returns-5
 returns-5 c e = cc
 
+sub-room : tie.Need-sub-room
+sub-room c = c .before .before .before .before .before .before .before .before .before .before .before .before .before .before .before .before .before .pre
+
 length-requires : tie.Need-length-requires
 length-requires c κs = search needs
 
-less-requires : tie.Need-less-requires
-less-requires c κs = search needs
-
 returns-6 : tie.Need-returns-6
 returns-6 c e =
-    takes-all _ _ _ _ _ _ _ _ _ (c .before .before .before .before .before .before .before .before .before .before .before .before .before .before .before .before .before .is-data .ensures) (c .before .before .before .before .before .before .before .before .before .before .before .before .before .before .before .before .if1 .left) (c .before .before .before .before .before .before .before .before .before .before .before .before .before .before .before .sequence .ensures) (c .before .before .before .before .before .before .before .before .before .before .before .before .if2 .left) (c .before .before .before .before .before .before .before .before .before .before .instance-id2 .ensures) (c .before .before .before .before .before .before .before .before .before .same-instance .ensures) (c .before .before .before .before .before .before .before .before .if3 .left) (c .before .before .before .before .before .before .before .epoch .ensures) (c .before .before .before .before .if4 .left) (c .before .before .if5 .left) (c .before .length .ensures) (c .less .ensures) e
+    takes-all _ _ _ _ _ _ _ _ _ (c .before .before .before .before .before .before .before .before .before .before .before .before .before .before .before .before .before .is-data .ensures) (c .before .before .before .before .before .before .before .before .before .before .before .before .before .before .before .before .if1 .left) (c .before .before .before .before .before .before .before .before .before .before .before .before .before .before .before .sequence .ensures) (c .before .before .before .before .before .before .before .before .before .before .before .before .if2 .left) (c .before .before .before .before .before .before .before .before .before .before .instance-id2 .ensures) (c .before .before .before .before .before .before .before .before .before .same-instance .ensures) (c .before .before .before .before .before .before .before .before .if3 .left) (c .before .before .before .before .before .before .before .epoch .ensures) (c .before .before .before .before .if4 .left) (c .before .before .if5 .left) (c .length .ensures) refl e
 
 pub takes-spec : {M : Type 1} → statement M
 takes-spec =
@@ -58,6 +59,6 @@ takes-spec =
     epoch-requires
     returns-4
     returns-5
+    sub-room
     length-requires
-    less-requires
     returns-6)

@@ -1,0 +1,1 @@
+// No code: a law of the program logic for the entries.
