@@ -1,8 +1,8 @@
--- `host_receive::is_allowed` meets its contract. The laws `allowing` have a case for Attaching, for Attached and for every other state. Assumes nothing.
+-- `host_checks::is_allowed` meets its contract. The laws `allowing` have a case for Attaching, for Attached and for every other state. Assumes nothing.
 use borrow.Author.Needs.{needs}
-use Rattle.host_receive.proofs.Allowing.{allowing}
-use Rattle.host_receive.proofs.is_allowed.Statement.{statement}
-use Rattle.host_receive.proofs.is_allowed.Tie as tie
+use Rattle.host_checks.proofs.Allowing.{allowing}
+use Rattle.host_checks.proofs.is_allowed.Statement.{statement}
+use Rattle.host_checks.proofs.is_allowed.Tie as tie
 
 number-requires : tie.Need-number-requires
 number-requires c κs = search needs

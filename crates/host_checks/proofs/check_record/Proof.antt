@@ -1,8 +1,8 @@
--- `host_receive::check_record` meets its contract. The laws `checking`: the rows by type and sequence stop the record, or the rows by its type decide. Assumes nothing.
+-- `host_checks::check_record` meets its contract. The laws `checking`: the rows by type and sequence stop the record, or the rows by its type decide. Assumes nothing.
 use borrow.Author.Needs.{needs}
-use Rattle.host_receive.proofs.Receiving.{checking}
-use Rattle.host_receive.proofs.check_record.Statement.{statement}
-use Rattle.host_receive.proofs.check_record.Tie as tie
+use Rattle.host_checks.proofs.Checking.{checking}
+use Rattle.host_checks.proofs.check_record.Statement.{statement}
+use Rattle.host_checks.proofs.check_record.Tie as tie
 
 check-order-requires : tie.Need-check-order-requires
 check-order-requires c κs = search needs

@@ -1,8 +1,8 @@
--- `host_receive::check_type` meets its contract. The laws `typing` have a case for READY, DATA, RESET and for every other type. Assumes nothing.
+-- `host_checks::check_type` meets its contract. The laws `typing` have a case for READY, DATA, RESET and for every other type. Assumes nothing.
 use borrow.Author.Needs.{needs}
-use Rattle.host_receive.proofs.Receiving.{typing}
-use Rattle.host_receive.proofs.check_type.Statement.{statement}
-use Rattle.host_receive.proofs.check_type.Tie as tie
+use Rattle.host_checks.proofs.Checking.{typing}
+use Rattle.host_checks.proofs.check_type.Statement.{statement}
+use Rattle.host_checks.proofs.check_type.Tie as tie
 
 identity-in-requires : tie.Need-identity-in-requires
 identity-in-requires c κs = search needs

@@ -1,24 +1,14 @@
--- The cases of the tests on states and types, a law for each `return` of the code. Assumes nothing.
-use Prim.Native.Nat.{ℕ, _≤_, _<_}
+-- The cases of the types that a state allows, a law for each `return` of the code. Assumes nothing.
+use Prim.Native.Nat.{ℕ}
 use mathlib.Core.Path.{_≡_, refl, _∙_}
-use mathlib.Core.Bool.{Bool, true, false, _&&_, _||_}
+use mathlib.Core.Bool.{Bool, true, false, _||_}
 use native.Mathlib.Omega.{arith}
-use lib.Dec.{eqb, leb}
-use borrow.Author.Tests.{le-leb, lt-leb, eq-eqb, ne-eqb}
+use lib.Dec.{eqb}
+use borrow.Author.Tests.{eq-eqb, ne-eqb}
 use Rattle.host.specs.State.{code}
 use Rattle.host.specs.declared.host.HostState.{HostState}
-use Rattle.host_receive.specs.Receive.{allowed}
+use Rattle.host_checks.specs.Checks.{allowed}
 
--- ---- the states in which a host receives
-pub open-low : (s : ℕ) → s < 1 → false ≡ leb 1 s && leb s 2
-open-low s h = simp (lt-leb 1 s h)
-
-pub open-high : (s : ℕ) → 1 ≤ s → leb s 2 ≡ leb 1 s && leb s 2
-open-high s h = simp (le-leb 1 s h)
-
-pub ruleset opening = (open-low, open-high)
-
--- ---- the types that a state allows
 module _ (t : ℕ) where
   pub attachment-wait : t ≡ 6 → true ≡ eqb t 6 || (eqb t 7 || eqb t 8)
   attachment-wait e = simp (eq-eqb t 6 e)

@@ -1,8 +1,8 @@
--- `host_receive::check_carried` meets its contract. The laws `carrying` have a case for an identity and one for none. Assumes nothing.
+-- `host_checks::check_carried` meets its contract. The laws `carrying` have a case for an identity and one for none. Assumes nothing.
 use borrow.Author.Needs.{needs}
-use Rattle.host_receive.proofs.Receiving.{carrying}
-use Rattle.host_receive.proofs.check_carried.Statement.{statement}
-use Rattle.host_receive.proofs.check_carried.Tie as tie
+use Rattle.host_checks.proofs.Checking.{carrying}
+use Rattle.host_checks.proofs.check_carried.Statement.{statement}
+use Rattle.host_checks.proofs.check_carried.Tie as tie
 
 is-identity-requires : tie.Need-is-identity-requires
 is-identity-requires c κs = search needs

@@ -1,8 +1,8 @@
--- `host_receive::check_reset` meets its contract. The laws `resetting` have a case for each of 11, 12, 14 and for a RESET that nothing stops. Assumes nothing.
+-- `host_checks::check_reset` meets its contract. The laws `resetting` have a case for each of 11, 12, 14 and for a RESET that nothing stops. Assumes nothing.
 use borrow.Author.Needs.{needs}
-use Rattle.host_receive.proofs.Receiving.{resetting}
-use Rattle.host_receive.proofs.check_reset.Statement.{statement}
-use Rattle.host_receive.proofs.check_reset.Tie as tie
+use Rattle.host_checks.proofs.Checking.{resetting}
+use Rattle.host_checks.proofs.check_reset.Statement.{statement}
+use Rattle.host_checks.proofs.check_reset.Tie as tie
 
 check-carried-requires : tie.Need-check-carried-requires
 check-carried-requires c κs = search needs

@@ -1,8 +1,8 @@
--- `host_receive::check_order` meets its contract. The laws `ordering` have a case for each of 10, 15 and the next sequence's answer. Assumes nothing.
+-- `host_checks::check_order` meets its contract. The laws `ordering` have a case for each of 10, 15 and the next sequence's answer. Assumes nothing.
 use borrow.Author.Needs.{needs}
-use Rattle.host_receive.proofs.Receiving.{ordering}
-use Rattle.host_receive.proofs.check_order.Statement.{statement}
-use Rattle.host_receive.proofs.check_order.Tie as tie
+use Rattle.host_checks.proofs.Checking.{ordering}
+use Rattle.host_checks.proofs.check_order.Statement.{statement}
+use Rattle.host_checks.proofs.check_order.Tie as tie
 
 code-requires : tie.Need-code-requires
 code-requires c κs = search needs
