@@ -1,14 +1,14 @@
 // What a guest's session takes in (01, "receive"), by value: it takes the session and answers with
 // the session after it.
-use codec::is_data;
 use copying::copy_at;
 use guest::guest::GuestSession;
 use guest::guest::GuestState;
+use header_checks::is_data;
 use parser::parser::Place;
 use parser::parser::Pushed;
 use parser::parser::RecordParser;
-use parser::parser::filled;
 use parser_push::push;
+use parts::filled;
 use protocol::outer::OUTER_HEADER_LEN;
 use protocol::outer::OUTER_MAX_PAYLOAD;
 use record::record::Record;

@@ -18,7 +18,7 @@ use Rattle.record.specs.declared.record.Record.{Record}
 use Rattle.parser.specs.Push.{Push, push, headWith, pushStage, pushOf, heldIn, bufferedOf, payloadAt}
 use Rattle.parser.specs.declared.parser.RecordParser.{RecordParser}
 use Rattle.parser.specs.declared.parser.Pushed.{Pushed}
-use Rattle.parser.proofs.Parts.{overlay-nothing}
+use Rattle.parts.proofs.Parts.{overlay-nothing}
 use Rattle.claims.specs.Reading.{Ready}
 use Rattle.claims.proofs.Scans.{Scan, unfinished, whole, refused, scan}
 use Rattle.claims.proofs.Records.{code-is}

@@ -1,8 +1,8 @@
--- `codec::check_rest` meets its contract. The laws `resting` have a case for each return: 4, 5, and what `check_bootstrap` ensures. Assumes nothing.
+-- `header_checks::check_rest` meets its contract. The laws `resting` have a case for each return: 4, 5, and what `check_bootstrap` ensures. Assumes nothing.
 use Rattle.record.proofs.Cases.{resting}
 use borrow.Author.Needs.{needs}
-use Rattle.codec.proofs.check_rest.Statement.{statement}
-use Rattle.codec.proofs.check_rest.Tie as tie
+use Rattle.header_checks.proofs.check_rest.Statement.{statement}
+use Rattle.header_checks.proofs.check_rest.Tie as tie
 
 flags-requires : tie.Need-flags-requires
 flags-requires c κs = search needs

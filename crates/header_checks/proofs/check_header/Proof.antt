@@ -1,8 +1,8 @@
--- `codec::check_header` meets its contract. The laws `heading` have a case for each return: 1, 2, 3, and what `check_rest` ensures for a type that is known. Assumes nothing.
+-- `header_checks::check_header` meets its contract. The laws `heading` have a case for each return: 1, 2, 3, and what `check_rest` ensures for a type that is known. Assumes nothing.
 use Rattle.record.proofs.Cases.{heading}
 use borrow.Author.Needs.{needs}
-use Rattle.codec.proofs.check_header.Statement.{statement}
-use Rattle.codec.proofs.check_header.Tie as tie
+use Rattle.header_checks.proofs.check_header.Statement.{statement}
+use Rattle.header_checks.proofs.check_header.Tie as tie
 
 magic-requires : tie.Need-magic-requires
 magic-requires c κs = search needs

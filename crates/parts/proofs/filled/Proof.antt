@@ -1,7 +1,7 @@
--- `parser::filled` meets its contract: it answers what `copy_at` leaves. Assumes nothing.
+-- `parts::filled` meets its contract: it answers what `copy_at` leaves. Assumes nothing.
 use borrow.Author.Needs.{needs}
-use Rattle.parser.proofs.parser.filled.Statement.{statement}
-use Rattle.parser.proofs.parser.filled.Tie as tie
+use Rattle.parts.proofs.filled.Statement.{statement}
+use Rattle.parts.proofs.filled.Tie as tie
 
 slice-aggregate-copy-at : tie.Need-slice-aggregate-copy-at
 slice-aggregate-copy-at c = search needs

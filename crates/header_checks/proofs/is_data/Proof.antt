@@ -1,8 +1,8 @@
--- `codec::is_data` meets its contract. The laws `data-headers` have a case for each return: a row that does not pass, another type, or the last test. Assumes nothing.
+-- `header_checks::is_data` meets its contract. The laws `data-headers` have a case for each return: a row that does not pass, another type, or the last test. Assumes nothing.
 use Rattle.record.proofs.Cases.{data-headers}
 use borrow.Author.Needs.{needs}
-use Rattle.codec.proofs.is_data.Statement.{statement}
-use Rattle.codec.proofs.is_data.Tie as tie
+use Rattle.header_checks.proofs.is_data.Statement.{statement}
+use Rattle.header_checks.proofs.is_data.Tie as tie
 
 magic-requires : tie.Need-magic-requires
 magic-requires c κs = search needs

@@ -1,8 +1,8 @@
--- `parser::parser::part` meets its contract. By `part-cut` the part between the two ends, each cut where the slice ends, is what the rule takes. Assumes nothing.
-use Rattle.parser.proofs.Parts.{part-cut}
+-- `parts::part` meets its contract. By `part-cut` the part between the two ends, each cut where the slice ends, is what the rule takes. Assumes nothing.
+use Rattle.parts.proofs.Parts.{part-cut}
 use borrow.Author.Needs.{needs}
-use Rattle.parser.proofs.parser.part.Statement.{statement}
-use Rattle.parser.proofs.parser.part.Tie as tie
+use Rattle.parts.proofs.part.Statement.{statement}
+use Rattle.parts.proofs.part.Tie as tie
 
 least-requires : tie.Need-least-requires
 least-requires c κs = search needs

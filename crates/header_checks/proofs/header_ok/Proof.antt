@@ -1,8 +1,8 @@
--- `codec::header_ok` meets its contract. The laws `accepting` have a case for each return: DATA that passes, and the number of what the checks answer. Assumes nothing.
+-- `header_checks::header_ok` meets its contract. The laws `accepting` have a case for each return: DATA that passes, and the number of what the checks answer. Assumes nothing.
 use Rattle.record.proofs.Cases.{accepting}
 use borrow.Author.Needs.{needs}
-use Rattle.codec.proofs.header_ok.Statement.{statement}
-use Rattle.codec.proofs.header_ok.Tie as tie
+use Rattle.header_checks.proofs.header_ok.Statement.{statement}
+use Rattle.header_checks.proofs.header_ok.Tie as tie
 
 is-data-requires : tie.Need-is-data-requires
 is-data-requires c κs = search needs

@@ -1,0 +1,24 @@
+// Parts of a piece: the header with a part of it, and the part itself.
+use copying::copy_at;
+use wire::bytes::least;
+ghost use mathlib.Core.Path.{_≡_};
+ghost use lib.ListN.{take, drop};
+ghost use Rattle.wire.specs.Bytes.{copied};
+
+// The header with a part of a piece from an index on. Where it does not fit the header stays.
+pub fn filled(header: [u8; 44], at: usize, part: &[u8]) -> [u8; 44]
+    ensures { λ r. ⌜ r ≡ copied header at (now (part .entry)) ⌝ }
+{
+    let mut bytes = header;
+    copy_at(&mut bytes, at, part);
+    bytes
+}
+
+// The part of a slice from an index on, of at most `size` bytes.
+pub fn part<'a>(s: &'a [u8], at: usize, size: usize) -> &'a [u8]
+    ensures { λ r. ⌜ now r ≡ take size (drop at (now (s .entry))) ⌝ }
+{
+    let start = least(at, s.len());
+    let end = start + least(size, s.len() - start);
+    &s[start..end]
+}
