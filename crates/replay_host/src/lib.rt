@@ -1,4 +1,6 @@
-// The calls of a host's session: operations 20 to 26, and 51.
+// The calls of a host's session, operations 20 to 26 and 51, for the replay
+// (tests/differential/FORMAT.md). Harness code: `turn` is for the replay alone and says nothing in an
+// `ensures`. It is proved safe and to end; the run holds what it does to the Rust's answers.
 use copying::copy_at;
 use host::host::HostSession;
 use host::host::HostState;
