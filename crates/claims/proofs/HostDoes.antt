@@ -17,7 +17,8 @@ use Rattle.parser.specs.Push.{Push, push, pushStage, heldIn, headWith, payloadA
 use Rattle.wire.specs.declared.Sequence.{Sequence}
 use Rattle.session.specs.declared.session.OptionalIdentity.{OptionalIdentity}
 use Rattle.host.specs.State.{code, isOpen, isBegun}
-use Rattle.host_receive.specs.Receive.{Receive, recordRows, effect, accept, afterPush, receiveRows, receive, receiveStage}
+use Rattle.host_checks.specs.Checks.{recordRows}
+use Rattle.host_receive.specs.Receive.{Receive, effect, accept, afterPush, receiveRows, receive, receiveStage}
 use Rattle.host.specs.declared.host.HostState.{HostState}
 use Rattle.host.specs.declared.host.HostSession.{HostSession}
 use Rattle.claims.specs.Reading.{heldBytes, Ready, Staged}

@@ -22,6 +22,7 @@ use Rattle.parser.specs.declared.parser.RecordParser.{RecordParser}
 use Rattle.parser.specs.declared.parser.Place.{Place}
 use Rattle.session.specs.declared.session.Identity.{Identity}
 use Rattle.host.specs.State.{isBegun, soundHost}
+use Rattle.host_checks.specs.Checks.{typeRows, recordRows}
 use Rattle.host_receive.specs.Receive as Receive
 use Rattle.host.specs.Asks as Asks
 use Rattle.host_calls.specs.Calls as Calls
@@ -94,7 +95,7 @@ push-not p size held piece s =
 abbrev NotReceive : Receive.Receive → Type 0
 NotReceive r = Not (r .answer .refusal)
 
-type-not : (t : ℕ) (i : Identity) (r : Record) → Nots (Receive.typeRows t i r)
+type-not : (t : ℕ) (i : Identity) (r : Record) → Nots (typeRows t i r)
 type-not t i r =
     picked Nots (eqb t 7) (λ _. (refl, tt))
     (λ _. picked Nots (eqb t 5) (λ _. (refl, (refl, tt))) (λ _. picked Nots (eqb t 3) (λ _. (refl, (refl, (refl, tt)))) (λ _. tt)))
@@ -116,8 +117,8 @@ module _ (h : HostSession) (u : Push) where
   unfolding Receive.accept
   accept-not =
       let r : Record = u .answer .«record» in
-      picked NotReceive (passes (first (Receive.recordRows h r))) (λ _. effect-not (r .«record_type»))
-      (λ _. first-not (Receive.recordRows h r) (refl, (refl, (refl, type-not (codeOf (r .«record_type»)) (h .identity .identity) r))))
+      picked NotReceive (passes (first (recordRows h r))) (λ _. effect-not (r .«record_type»))
+      (λ _. first-not (recordRows h r) (refl, (refl, (refl, type-not (codeOf (r .«record_type»)) (h .identity .identity) r))))
 
   after-not : NotPush u → NotReceive (Receive.afterPush h u)
   unfolding Receive.afterPush

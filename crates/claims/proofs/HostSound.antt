@@ -16,7 +16,8 @@ use Rattle.record.specs.declared.record.Record.{Record}
 use Rattle.parser.specs.Push.{soundParser, countsOk, errorOk, Push, push, heldIn, bufferedOf}
 use Rattle.session.specs.Checks.{holds, sequenceRow, nextRow}
 use Rattle.host.specs.State.{isAttached, isBegun, soundHost}
-use Rattle.host_receive.specs.Receive.{Receive, allowed, typeRows, recordRows, effect, accept, afterPush, receiveRows, receive, receiveOf}
+use Rattle.host_checks.specs.Checks.{allowed, typeRows, recordRows}
+use Rattle.host_receive.specs.Receive.{Receive, effect, accept, afterPush, receiveRows, receive, receiveOf}
 use Rattle.host_calls.specs.Calls as Calls
 use Rattle.host.specs.declared.host.HostSession.{HostSession}
 use Rattle.host_calls.specs.declared.Closed.{Closed}

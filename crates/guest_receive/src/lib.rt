@@ -1,14 +1,14 @@
 // What a guest's session takes in (01, "receive"), by value: it takes the session and answers with
 // the session after it. DATA that flows has a quick way here; `guest_accept` has the rest.
-use codec::is_data;
 use copying::copy_at;
 use guest::guest::GuestSession;
 use guest_accept::GuestEvent;
 use guest_accept::Received;
 use guest_accept::receive_any;
+use header_checks::is_data;
 use parser::parser::Place;
 use parser::parser::RecordParser;
-use parser::parser::filled;
+use parts::filled;
 use protocol::outer::OUTER_HEADER_LEN;
 use protocol::outer::OUTER_MAX_PAYLOAD;
 use session::session::Identity;

@@ -1,5 +1,5 @@
-// The host's session by value, and what it is asked. The crate `host_receive` has its receive, and
-// `host_calls` its other calls.
+// The host's session by value, and what it is asked. The crate `host_checks` has what stops a record,
+// `host_receive` its receive, and `host_calls` its other calls.
 use parser::parser::Count;
 use parser::parser::RecordParser;
 use session::session::OptionalIdentity;

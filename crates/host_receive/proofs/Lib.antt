@@ -1,2 +1,1 @@
-pub mod Allowing
 pub mod Receiving

@@ -1,14 +1,13 @@
 -- The rule of a host's receive (01, "receive"). What it answers depends on the stage only by its length and by `held`, the payload bytes
 -- that have come; what it leaves in the stage is a rule of its own, `receiveStage`.
 use Prim.Native.Nat.{ℕ}
-use mathlib.Core.Bool.{Bool, true, not, _&&_, _||_}
-use mathlib.Core.List.{List, [], _∷_, _++_}
+use mathlib.Core.Bool.{Bool, true}
+use mathlib.Core.List.{List, [], _∷_}
 use lib.ListN.{length}
-use lib.Dec.{eqb, leb}
+use lib.Dec.{leb}
 use Rattle.wire.specs.Refusals.{pick, refusal, none, first, passes}
 use Rattle.protocol.specs.Outer.{maxPayload}
 use Rattle.wire.specs.declared.refusal.Refusal.{Refusal}
-use Rattle.types.specs.Types.{codeOf}
 use Rattle.types.specs.declared.RecordType.{RecordType}
 use Rattle.types.specs.declared.RecordType.the-variants as Kind
 use Rattle.record.specs.declared.record.Record.{Record}
@@ -16,44 +15,17 @@ use Rattle.parser.specs.Push.{Push, push, pushStage, heldIn}
 use Rattle.parser.specs.declared.parser.Place.{Place}
 use Rattle.parser.specs.declared.parser.Place.the-variants.{Piece}
 use Rattle.parser.specs.declared.parser.Pushed.{Pushed}
-use Rattle.session.specs.Checks.{noIdentity, identityOf, identityRow, nextRow, sequenceRow, instanceRow, epochRow}
+use Rattle.session.specs.Checks.{noIdentity, identityOf}
 use Rattle.session.specs.declared.session.Identity.{Identity}
 use Rattle.session.specs.declared.session.OptionalIdentity.{OptionalIdentity}
-use Rattle.host.specs.State.{isOpen, isAttaching, isAttached, soundHost, withState, nextHost}
+use Rattle.host.specs.State.{isOpen, soundHost, withState, nextHost}
 use Rattle.host.specs.declared.host.HostState.{HostState}
 use Rattle.host.specs.declared.host.HostState.the-variants as State
+use Rattle.host_checks.specs.Checks.{recordRows}
 use Rattle.host_receive.specs.declared.HostEvent.{HostEvent}
 use Rattle.host_receive.specs.declared.HostEvent.the-variants as Event
 use Rattle.host.specs.declared.host.HostSession.{HostSession}
 use Rattle.host_receive.specs.declared.Received.{Received}
-
--- ---- what stops a whole record
--- Wait, Ready, Error when Attaching; Data, Reset when Attached
-abbrev pub allowed : HostState → ℕ → Bool
-allowed s t = (isAttaching s && (eqb t 6 || (eqb t 7 || eqb t 8))) || (isAttached s && (eqb t 5 || eqb t 3))
-
--- 14 epoch not above (a current, b actual)
-abbrev pub staleRow : ℕ → ℕ → (Bool × Refusal)
-staleRow current actual = (not (leb actual current), refusal 14 current actual 0)
-
--- Ready 11; Data 12, 13; Reset 11, 12, 14; Wait and Error nothing more
-abbrev pub typeRows : ℕ → Identity → Record → List (Bool × Refusal)
-typeRows t i r =
-    pick (eqb t 7) (identityRow 7 (r .«instance_id») (r .epoch .0) ∷ [])
-    (pick (eqb t 5) (instanceRow (i .«instance_id») (r .«instance_id») ∷ epochRow (i .epoch .0) (r .epoch .0) ∷ [])
-    (pick (eqb t 3)
-    (identityRow 3 (r .«instance_id») (r .epoch .0) ∷ instanceRow (i .«instance_id») (r .«instance_id») ∷ staleRow (i .epoch .0) (r .epoch .0) ∷ [])
-    []))
-
--- 10 type (a type), 15 sequence, 16 no next sequence (a type)
-abbrev pub orderRows : HostState → ℕ → ℕ → ℕ → List (Bool × Refusal)
-orderRows s t actual due = (allowed s t, refusal 10 t 0 0) ∷ sequenceRow due actual ∷ nextRow t due ∷ []
-
--- 10, 15, 16, then by the type
-abbrev pub recordRows : HostSession → Record → List (Bool × Refusal)
-recordRows h r =
-    let t : ℕ = codeOf (r .«record_type») in
-    orderRows (h .state) t (r .sequence .0) (h .«receive_sequence» .0) ++ typeRows t (h .identity .identity) r
 
 -- ---- the answers
 -- what a receive does: its answer, the payload bytes held afterwards, and the payload handed out ([] where there is none)

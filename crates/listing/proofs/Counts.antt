@@ -22,7 +22,7 @@ use Rattle.parser.specs.declared.parser.RecordParser.{RecordParser}
 use Rattle.parser.specs.declared.parser.Place.{Place}
 use Rattle.parser.specs.declared.parser.Place.the-variants.{Piece, Stage}
 use Rattle.parser.specs.declared.parser.Pushed.{Pushed}
-use Rattle.parser.proofs.Parts.{overlay-nothing}
+use Rattle.parts.proofs.Parts.{overlay-nothing}
 use Rattle.parser.proofs.Cases.{type-code}
 use Rattle.reach.specs.Reach.{refusedBytes}
 use Rattle.reach.proofs.Sums.{refused-header, refused-all}

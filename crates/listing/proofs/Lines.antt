@@ -14,7 +14,7 @@ use Rattle.protocol.specs.Outer as outer
 use Rattle.wire.specs.declared.refusal.Refusal.{Refusal}
 use Rattle.wire.proofs.Rows.{pass-all, row-stops, row-passes}
 use Rattle.parser.specs.Push.{bufferedOf}
-use Rattle.parser.proofs.Parts.{part-end, take-min}
+use Rattle.parts.proofs.Parts.{part-end, take-min}
 use Rattle.decimal.specs.Decimal.{placed}
 use Rattle.lines.specs.Lines.{names, ending, putText}
 use Rattle.lines.proofs.Texts.{text-puts}

@@ -21,8 +21,8 @@ use Rattle.record.specs.declared.record.Record.{Record}
 use Rattle.parser.specs.Push.{soundParser, Push, push, headWith, pushStage, pushOf, heldIn, bufferedOf, payloadAt}
 use Rattle.parser.specs.declared.parser.RecordParser.{RecordParser}
 use Rattle.parser.specs.declared.parser.Pushed.{Pushed}
-use Rattle.parser.proofs.Parts.{overlay-nothing}
 use Rattle.parser.proofs.Cases.{sound-empty}
+use Rattle.parts.proofs.Parts.{overlay-nothing}
 use Rattle.claims.specs.Reading.{Ready}
 use Rattle.claims.proofs.Scans.{Scan, unfinished, whole, refused, scan}
 use Rattle.claims.proofs.Records.{code-is}

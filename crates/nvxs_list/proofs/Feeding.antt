@@ -6,7 +6,7 @@ use mathlib.Core.List.{List, [], _∷_, _++_, append-nil}
 use native.Mathlib.Omega.{arith}
 use lib.ListN.{length, take, drop, length-drop, drop-of-length-le}
 use lib.Seq.{drop-drop}
-use Rattle.parser.proofs.Parts.{part-end}
+use Rattle.parts.proofs.Parts.{part-end}
 use Rattle.lines.specs.Lines.{lineRoom}
 use Rattle.listing.specs.Steps.{Outcome, outcome, listOf}
 use Rattle.listing.specs.Calls.{Calls, stop, call, written}

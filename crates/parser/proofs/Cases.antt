@@ -30,7 +30,7 @@ use Rattle.parser.specs.declared.parser.Pushed.{Pushed}
 use Rattle.parser.specs.declared.parser.Count.{Count}
 use Rattle.parser.specs.Push.{parserOf, fresh, countsOk, errorOk, soundParser, clear, Push, stopped, waiting, failed, completed, finish, bodyTaken, pushBody, headTaken, headWith, pushHead, pushRows, push}
 use Rattle.parser.specs.Push.{bodyStage, headStage, pushStage, heldIn, Outcome, outcome, pushOf, payloadAt, neededOf, bufferedOf, counted}
-use Rattle.parser.proofs.Parts.{part-end, overlay-nothing, take-none}
+use Rattle.parts.proofs.Parts.{part-end, overlay-nothing, take-none}
 
 -- ---- soundness
 module _ (h : List ℕ) (n k : ℕ) where

@@ -1,18 +1,15 @@
 // The parser's value, whether it is sound and what it answers when asked, and the payload of a
 // complete record. `parser_push` has the push.
-use codec::header_ok;
-use codec::is_data;
-use copying::copy_at;
+use header_checks::header_ok;
+use header_checks::is_data;
+use parts::part;
 use protocol::outer::OUTER_HEADER_LEN;
 use record::record::Record;
-use wire::bytes::least;
 use wire::refusal::Refusal;
 ghost use mathlib.Core.Path.{_≡_};
 ghost use mathlib.Core.Bool.{_&&_};
 ghost use lib.Dec.{eqb, ltb};
 ghost use Prim.Native.Nat.{_+_};
-ghost use lib.ListN.{take, drop};
-ghost use Rattle.wire.specs.Bytes.{copied};
 ghost use Rattle.wire.specs.Header.{lengthOf};
 ghost use Rattle.parser.specs.Push.{fresh, countsOk, errorOk, soundParser, clear, payloadAt, neededOf, bufferedOf, counted};
 
@@ -176,24 +173,6 @@ impl RecordParser {
             count: self.header_len + self.payload_len,
         }
     }
-}
-
-// The header with a part of a piece from an index on. Where it does not fit the header stays.
-pub fn filled(header: [u8; 44], at: usize, part: &[u8]) -> [u8; 44]
-    ensures { λ r. ⌜ r ≡ copied header at (now (part .entry)) ⌝ }
-{
-    let mut bytes = header;
-    copy_at(&mut bytes, at, part);
-    bytes
-}
-
-// The part of a slice from an index on, of at most `size` bytes.
-pub fn part<'a>(s: &'a [u8], at: usize, size: usize) -> &'a [u8]
-    ensures { λ r. ⌜ now r ≡ take size (drop at (now (s .entry))) ⌝ }
-{
-    let start = least(at, s.len());
-    let end = start + least(size, s.len() - start);
-    &s[start..end]
 }
 
 // The payload of a complete record, as a part of the piece or of the stage, both lent for reading

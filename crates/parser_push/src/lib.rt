@@ -1,15 +1,15 @@
 // An incremental parser's push: bytes come in pieces of any size, and each record is handed over
 // with its last byte. Payload bytes that come in several pushes lie in a stage that the caller lends.
 use checks::check_payload;
-use codec::check_header;
-use codec::header_ok;
 use codec::record_of;
 use copying::copy_at;
+use header_checks::check_header;
+use header_checks::header_ok;
 use parser::parser::Place;
 use parser::parser::Pushed;
 use parser::parser::RecordParser;
-use parser::parser::filled;
-use parser::parser::part;
+use parts::filled;
+use parts::part;
 use protocol::outer::OUTER_HEADER_LEN;
 use protocol::outer::OUTER_MAX_PAYLOAD;
 use record::record::no_record;

@@ -101,22 +101,40 @@ fn least(a: usize, b: usize) -> usize
     if a < b { a } else { b }
 }
 
-// Bytes pushed to a new parser in pieces of `n`, until a record is complete or refused.
+// Bytes in pieces of `n` to a new parser, on a line.
 pub fn in_pieces(bytes: &[u8], n: usize)
     requires { ⌜ 1 ≤ n ⌝ }
 {
     print::labelled(b" in pieces of ", n as u64);
     print::text(b": ");
-    let mut stage = [0xAAu8; 65536];
+    push_all(bytes, n, &mut [0xAAu8; 65536]);
+}
+
+// Whether a push is the last: a record is complete or refused, or no bytes are left.
+fn is_last(complete: bool, number: u64, left: usize) -> bool {
+    if complete {
+        return true;
+    }
+    if number != 0 {
+        return true;
+    }
+    left == 0
+}
+
+// Bytes pushed to a new parser in pieces of `n`, until a record is complete or refused.
+fn push_all(bytes: &[u8], n: usize, stage: &mut [u8])
+    requires { ⌜ 1 ≤ n ⌝ }
+{
     let mut parser = RecordParser::new();
     let mut taken: u64 = 0;
     let mut at: usize = 0;
     while at < bytes.len() {
         let end = at + least(n, bytes.len() - at);
-        let pushed = parser_push::push(parser, &bytes[at..end], &mut stage);
+        let piece = &bytes[at..end];
+        let pushed = parser_push::push(parser, piece, stage);
         taken = std::num::wrapping_add_u64(taken, pushed.consumed as u64);
-        if pushed.complete || pushed.refusal.number != 0 || end == bytes.len() {
-            answers::pushed(pushed, taken, &bytes[at..end], &stage);
+        if is_last(pushed.complete, pushed.refusal.number, bytes.len() - end) {
+            answers::pushed(pushed, taken, piece, stage);
             return;
         }
         parser = pushed.parser;

@@ -1,7 +1,7 @@
 // Runs blocks of calls on the port and writes what each answers, so that the answers can be held
 // to the Rust reference's (tests/differential/FORMAT.md). A layer of the port is a file in crate
-// replay_layers or, for a session's, replay_ends. A session's or a parser's has a `turn`, which runs
-// the calls that are its own; any other has an arm of `plain`.
+// replay_layers; a session's is a crate, replay_guest or replay_host. A session's or a parser's has a
+// `turn`, which runs the calls that are its own; any other has an arm of `plain`.
 mod emit;
 
 use crate::emit::emit;
@@ -16,8 +16,6 @@ use replay_answer::frame::AREA;
 use replay_answer::frame::Frame;
 use replay_answer::frame::cut;
 use replay_answer::frame::frame_at;
-use replay_ends::guest_end;
-use replay_ends::host_end;
 use replay_layers::outer_calls;
 use replay_layers::parser_calls;
 use replay_layers::record_calls;
@@ -88,9 +86,9 @@ fn run(calls: &[u8], thin: bool, out: &mut [u8]) -> usize {
         }
         at = end;
         let input = cut(calls, f.from, f.size);
-        let g = guest_end::turn(guest, f, input, &mut memory);
+        let g = replay_guest::turn(guest, f, input, &mut memory);
         guest = g.guest;
-        let h = host_end::turn(host, g.answer, f, input, &mut memory);
+        let h = replay_host::turn(host, g.answer, f, input, &mut memory);
         host = h.host;
         let p = parser_calls::turn(parser, h.answer, f, input, &mut memory);
         parser = p.parser;

@@ -1,5 +1,5 @@
 -- `host_receive::is_open` meets its contract. The laws `opening` have a case for each test. Assumes nothing.
-use Rattle.host_receive.proofs.Allowing.{opening}
+use Rattle.host_receive.proofs.Receiving.{opening}
 use Rattle.host_receive.proofs.is_open.Statement.{statement}
 use Rattle.host_receive.proofs.is_open.Tie as tie
 

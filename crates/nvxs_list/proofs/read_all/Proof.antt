@@ -1,6 +1,7 @@
 -- `nvxs_list::read_all` meets its contract. The buffers keep their lengths, and each turn takes one from `turns`. Assumes nothing.
+use Prim.Native.Nat.{ℕ}
 use mathlib.Core.Path.{_≡_}
-use lib.ListN.{length}
+use lib.ListN.{length, length-replicate}
 use borrow.Author.Needs.{needs}
 use Rattle.nvxs_list.proofs.read_all.Statement.{statement}
 use Rattle.nvxs_list.proofs.read_all.Tie as tie
@@ -15,7 +16,7 @@ new-requires : tie.Need-new-requires Inv-loop μ-loop
 new-requires c κs = search needs
 
 loop-holds : tie.Need-loop-holds Inv-loop μ-loop
-loop-holds c = (search needs, search needs, search needs)
+loop-holds c = (length-replicate {A = ℕ} 65536 0, length-replicate {A = ℕ} 262144 0, search needs)
 
 sub-turns : tie.Need-sub-turns Inv-loop μ-loop
 sub-turns c = search needs

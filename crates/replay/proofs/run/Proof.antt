@@ -2,9 +2,9 @@
 -- Assumes nothing.
 use borrow.Author.Needs.{needs}
 use native.Mathlib.Omega.{arith}
-use Prim.Native.Nat.{_-_}
-use mathlib.Core.Path.{_≡_}
-use lib.ListN.{length}
+use Prim.Native.Nat.{ℕ, _-_}
+use mathlib.Core.Path.{_≡_, refl}
+use lib.ListN.{length, length-replicate}
 use Rattle.replay.proofs.run.Statement.{statement}
 use Rattle.replay.proofs.run.Tie as tie
 
@@ -24,7 +24,7 @@ new-requires-3 : tie.Need-new-requires-3 Inv-loop μ-loop
 new-requires-3 c κs = search needs
 
 loop-holds : tie.Need-loop-holds Inv-loop μ-loop
-loop-holds c = search needs
+loop-holds c = (refl, length-replicate {A = ℕ} 262400 0)
 
 frame-at-requires : tie.Need-frame-at-requires Inv-loop μ-loop
 frame-at-requires c κs = search needs

@@ -1,8 +1,9 @@
 -- `all` is safe and ends: the buffers keep their lengths, and each turn takes one of the turns that are left.
 -- Assumes nothing.
 use borrow.Author.Needs.{needs}
+use Prim.Native.Nat.{ℕ}
 use mathlib.Core.Path.{_≡_}
-use lib.ListN.{length}
+use lib.ListN.{length, length-replicate}
 use Rattle.replay_run.proofs.all.Statement.{statement}
 use Rattle.replay_run.proofs.all.Tie as tie
 
@@ -13,7 +14,7 @@ abbrev μ-loop : tie.MeasureT-loop
 μ-loop calls₀ out₀ turns₀ calls out turns = turns
 
 loop-holds : tie.Need-loop-holds Inv-loop μ-loop
-loop-holds c = (search needs, search needs)
+loop-holds c = (length-replicate {A = ℕ} 131072 0, length-replicate {A = ℕ} 262144 0)
 
 sub-turns : tie.Need-sub-turns Inv-loop μ-loop
 sub-turns c = search needs

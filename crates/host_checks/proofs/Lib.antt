@@ -1,0 +1,2 @@
+pub mod Allowing
+pub mod Checking
