@@ -53,7 +53,7 @@ use Rattle.host_entry.specs.Answers.{receiveAnswer}
 use Rattle.host.specs.declared.host.HostSession.{HostSession}
 use Rattle.host_receive.specs.declared.Received.{Received}
 use Rattle.host_entry.specs.declared.ReceiveAnswer.{ReceiveAnswer}
-use Rattle.host_entry.proofs.Says.{says3}
+use Rattle.entry_laws.proofs.Says.{says3}
 use Rattle.host.proofs.host.HostSession as S
 use Rattle.host.proofs.host.HostSession.Laws as S′
 use Rattle.host_receive.proofs.Received as D
