@@ -9,7 +9,6 @@ test: rt-present
 	@tests/kit
 	@rt fmt --check
 	@echo 'fmt: every file is in the layout'
-	@tests/types/run
 	@tests/ci
 
 CAPTURE ?= samples/reattachment.nvxs
