@@ -16,7 +16,7 @@ CAPTURE ?= samples/reattachment.nvxs
 run: rt-present
 	@echo 'proving and building nvxs_list: some minutes the first time' >&2
 	@mkdir -p target
-	@rt check nvxs_list > target/run.log 2>&1 || { tail -n 20 target/run.log >&2; exit 1; }
+	@tests/in_memory rt check nvxs_list > target/run.log 2>&1 || { tail -n 20 target/run.log >&2; exit 1; }
 	@target/bin/nvxs_list < $(CAPTURE)
 
 rt-present:
