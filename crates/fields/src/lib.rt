@@ -1,9 +1,9 @@
 // The fields of a header's 44 bytes, each read at its place.
+use numbers::u16_from_le_bytes;
+use numbers::u32_from_le_bytes;
+use numbers::u64_from_le_bytes;
 use wire::Epoch;
 use wire::Sequence;
-use wire::bytes::u16_from_le_bytes;
-use wire::bytes::u32_from_le_bytes;
-use wire::bytes::u64_from_le_bytes;
 ghost use mathlib.Core.Path.{_≡_};
 ghost use Rattle.wire.specs.Header.{magicOf, versionOf, typeOf, flagsOf, instanceOf, epochOf, sequenceOf, lengthOf};
 

@@ -1,11 +1,11 @@
 // The checks of a record's header (01, 1 to 6), whole and as short tests.
 use checks::check_bootstrap;
 use checks::check_length;
-use protocol::outer::OUTER_MAGIC;
-use protocol::outer::OUTER_VERSION;
+use headers::OUTER_MAGIC;
+use headers::OUTER_VERSION;
+use numbers::u32_from_le_bytes;
 use types::RecordType;
 use types::TypeLookup;
-use wire::bytes::u32_from_le_bytes;
 use wire::refusal::Refusal;
 ghost use mathlib.Core.Path.{_≡_};
 ghost use mathlib.Core.Bool.{_&&_};

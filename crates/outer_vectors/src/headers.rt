@@ -1,7 +1,7 @@
 // decode_outer_header: the fields it reads, and refusals 25 and 26.
+use headers::encode_header;
 use protocol::outer::OuterHeader;
 use protocol::outer::decode_outer_header;
-use protocol::outer::encode_header;
 use wire::Epoch;
 use wire::Sequence;
 

@@ -1,6 +1,6 @@
 // The payloads of four bytes: the ack and credit pairs of the plain layer (outer.rs), and their limits.
-use wire::bytes::u32_from_le_bytes;
-use wire::bytes::u32_to_le_bytes;
+use numbers::u32_from_le_bytes;
+use numbers::u32_to_le_bytes;
 use wire::refusal::Refusal;
 ghost use mathlib.Core.Path.{_≡_};
 ghost use Rattle.protocol.specs.Outer.{windowOk, creditOk, valueOf};

@@ -1,22 +1,17 @@
 // Outer records (magic `NVXS`): the port of outer.rs. A record is a 44-byte header and a payload.
 use copying::copy_at;
+use headers::OUTER_MAGIC;
+use headers::OUTER_VERSION;
+use headers::encode_header;
+use numbers::u32_from_le_bytes;
 use wire::Epoch;
 use wire::Sequence;
-use wire::bytes::u16_to_le_bytes;
-use wire::bytes::u32_from_le_bytes;
-use wire::bytes::u32_to_le_bytes;
-use wire::bytes::u64_to_le_bytes;
 use wire::refusal::Refusal;
 ghost use mathlib.Core.Path.{_≡_};
 ghost use Prim.Native.Nat.{_+_, _≤_};
 ghost use lib.ListN.{length};
-ghost use Rattle.wire.specs.Header.{headerBytes};
 ghost use Rattle.protocol.specs.Outer.{outcome, notWritten, putRecord, encodeOuter, outerOk, headerOf, refusedHeader, decodeOuterHeader};
 
-// Magic of every outer record.
-pub const OUTER_MAGIC: [u8; 4] = [0x4E, 0x56, 0x58, 0x53];
-// Version of the outer record format.
-pub const OUTER_VERSION: u16 = 1;
 // Length of an outer record header.
 pub const OUTER_HEADER_LEN: usize = 44;
 // Largest payload of one outer record.
@@ -40,33 +35,6 @@ pub struct Written {
 pub struct DecodedHeader {
     pub refusal: Refusal,
     pub header: OuterHeader,
-}
-
-// Returns the header of a record. It checks nothing.
-pub fn encode_header(
-    record_type: u8,
-    instance_id: [u8; 16],
-    epoch: Epoch,
-    sequence: Sequence,
-    length: u32,
-) -> [u8; 44]
-    ensures { λ r. ⌜ r ≡ headerBytes «record_type» «instance_id» (epoch .0) (sequence .0) length ⌝ }
-{
-    let magic = OUTER_MAGIC;
-    let version = u16_to_le_bytes(OUTER_VERSION);
-    let type_and_flags = [record_type, 0];
-    let epoch_bytes = u64_to_le_bytes(epoch.0);
-    let sequence_bytes = u64_to_le_bytes(sequence.0);
-    let length_bytes = u32_to_le_bytes(length);
-    let mut header = [0u8; 44];
-    copy_at(&mut header, 0, &magic);
-    copy_at(&mut header, 4, &version);
-    copy_at(&mut header, 6, &type_and_flags);
-    copy_at(&mut header, 8, &instance_id);
-    copy_at(&mut header, 24, &epoch_bytes);
-    copy_at(&mut header, 32, &sequence_bytes);
-    copy_at(&mut header, 40, &length_bytes);
-    header
 }
 
 // Nothing is written.

@@ -1,9 +1,9 @@
 // One record through the encoder and through a parser.
 use crate::answers;
 use codec::encode_record;
+use headers::encode_header;
 use parser::parser::RecordParser;
 use protocol::outer::Written;
-use protocol::outer::encode_header;
 use protocol::outer::put_record;
 use types::RecordType;
 use wire::Epoch;

@@ -2,9 +2,9 @@
 use crate::frame::OUTPUT;
 use crate::frame::after;
 use copying::copy_at;
+use numbers::u32_to_le_bytes;
+use numbers::u64_to_le_bytes;
 use session::session::Identity;
-use wire::bytes::u32_to_le_bytes;
-use wire::bytes::u64_to_le_bytes;
 use wire::refusal::Refusal;
 
 // Bytes of an answer's head.

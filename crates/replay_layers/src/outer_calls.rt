@@ -1,6 +1,7 @@
 // The calls of the plain layer, and the record encoder beside its own: operations 40 to 46.
 use crate::record_calls;
 use copying::copy_at;
+use numbers::u32_from_le_bytes;
 use payloads::DecodedPayload;
 use payloads::EncodedPayload;
 use protocol::outer::DecodedHeader;
@@ -28,7 +29,6 @@ use replay_answer::frame::sixteen;
 use session::session::Identity;
 use wire::Epoch;
 use wire::Sequence;
-use wire::bytes::u32_from_le_bytes;
 
 // The fields that stand before an encoder's payload: type, instance, epoch, sequence.
 pub struct Fields {

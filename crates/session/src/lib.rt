@@ -1,3 +1,2 @@
-// What the two ends of a session share (nvxs/mod.rs): identities, and the checks on sequence and
-// identity.
+// What the two ends of a session share (nvxs/mod.rs): identities, and the rules of the shared checks.
 pub mod session;

@@ -1,4 +1,4 @@
-// Identities and the shared checks.
+// Identities, and the sequence after another.
 use checks::all_zero;
 use record::record::Record;
 use types::RecordType;
@@ -6,10 +6,8 @@ use wire::Epoch;
 use wire::Sequence;
 use wire::refusal::Refusal;
 ghost use mathlib.Core.Path.{_≡_};
-ghost use mathlib.Core.List.{[], _∷_};
-ghost use Rattle.wire.specs.Refusals.{first};
 ghost use Rattle.types.specs.Types.{codeOf};
-ghost use Rattle.session.specs.Checks.{identityOf, same, noIdentity, identityOk, holds, shown, recordIdentity, nextSequence, sequenceRow, otherInstance, instanceRow, epochRow};
+ghost use Rattle.session.specs.Checks.{identityOf, same, noIdentity, identityOk, holds, shown, recordIdentity, nextSequence};
 
 // Identity of one epoch of a session.
 pub struct Identity {
@@ -135,54 +133,4 @@ pub fn next_sequence(sequence: Sequence, record_type: RecordType) -> NextSequenc
         refusal: Refusal::new(16, record_type.code() as u64, 0, 0),
         sequence: Sequence(0),
     }
-}
-
-// Checks a record's sequence.
-pub fn check_sequence(actual: Sequence, expected: Sequence) -> Refusal
-    ensures { λ r. ⌜ r ≡ first (sequenceRow (expected .0) (actual .0) ∷ []) ⌝ }
-{
-    if actual.0 == expected.0 {
-        return Refusal::none();
-    }
-    Refusal::new(15, expected.0, actual.0, 0)
-}
-
-// The refusal of another instance.
-fn wrong_instance(expected: [u8; 16], actual: [u8; 16]) -> Refusal
-    ensures { λ r. ⌜ r ≡ otherInstance expected actual ⌝ }
-{
-    Refusal {
-        number: 12,
-        a: 0,
-        b: 0,
-        c: 0,
-        expected,
-        actual,
-    }
-}
-
-// Checks a record's instance.
-pub fn check_instance(actual: [u8; 16], expected: [u8; 16]) -> Refusal
-    ensures { λ r. ⌜ r ≡ first (instanceRow expected actual ∷ []) ⌝ }
-{
-    if same_instance(actual, expected) {
-        return Refusal::none();
-    }
-    wrong_instance(expected, actual)
-}
-
-// Checks a record's identity: its instance, then its epoch.
-pub fn check_identity(actual: Identity, expected: Identity) -> Refusal
-    ensures { λ r. ⌜ r ≡ first (instanceRow (expected .«instance_id») (actual .«instance_id») ∷ epochRow (expected .epoch .0) (actual .epoch .0) ∷ []) ⌝ }
-{
-    let actual_instance = actual.instance_id;
-    let expected_instance = expected.instance_id;
-    let refusal = check_instance(actual_instance, expected_instance);
-    if refusal.number != 0 {
-        return refusal;
-    }
-    if actual.epoch.0 == expected.epoch.0 {
-        return Refusal::none();
-    }
-    Refusal::new(13, expected.epoch.0, actual.epoch.0, 0)
 }

@@ -1,4 +1,4 @@
-// What every layer reads and writes: numbers of fixed width, and refusals.
+// What every layer uses: refusals, epochs and sequences, and the rules of bytes and headers.
 pub mod bytes;
 pub mod refusal;
 
