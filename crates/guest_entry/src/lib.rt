@@ -1,17 +1,14 @@
 // The entry for receive that changes the caller's guest session (01, "thin entries for receive and
 // credit change the caller's session"). It passes a copy of the session to the operation by value
-// and stores the session of its answer back. The function by value over it is for callers that hold
-// the session themselves.
+// and stores the session of its answer back.
 use guest::guest::GuestSession;
 use guest_accept::GuestEvent;
-use guest_accept::Received;
 use guest_receive::receive;
 use parser::parser::Place;
 use session::session::Identity;
 use wire::refusal::Refusal;
 ghost use mathlib.Core.Path.{_≡_};
 ghost use Rattle.guest_accept.specs.Receive.{receiveOf};
-ghost use Rattle.guest_accept.specs.Receive as receiving;
 ghost use Rattle.guest_entry.specs.Answers.{receiveAnswer};
 
 // What a receive answers beside the session. The bytes of data are had by `payload` of
@@ -41,22 +38,5 @@ pub fn receive_in(session: &mut GuestSession, piece: &[u8], stage: &mut [u8]) ->
         identity: done.identity,
         place: done.place,
         length: done.length,
-    }
-}
-
-// `receive_in` on a session that is passed and answered by value.
-pub fn receive_once(session: GuestSession, piece: &[u8], stage: &mut [u8]) -> Received
-    ensures { λ r. ⌜ receiving.outcome r (now (stage .exit)) ≡ receiveOf session (now (piece .entry)) (now (stage .entry)) ⌝ }
-{
-    let mut s = session;
-    let answer = receive_in(&mut s, piece, stage);
-    Received {
-        refusal: answer.refusal,
-        consumed: answer.consumed,
-        event: answer.event,
-        identity: answer.identity,
-        place: answer.place,
-        length: answer.length,
-        session: s,
     }
 }

@@ -1,16 +1,14 @@
 // The entry that changes the caller's host session (01, "thin entries for receive and credit change
 // the caller's session"). It passes a copy of the session to the operation by value and stores the
-// session of its answer back. The function by value over it is for callers that hold the session
-// themselves.
+// session of its answer back.
 use host::host::HostSession;
 use host_receive::HostEvent;
-use host_receive::Received;
 use host_receive::receive;
 use parser::parser::Place;
 use session::session::Identity;
 use wire::refusal::Refusal;
 ghost use mathlib.Core.Path.{_≡_};
-ghost use Rattle.host_receive.specs.Receive.{outcome, receiveOf};
+ghost use Rattle.host_receive.specs.Receive.{receiveOf};
 ghost use Rattle.host_entry.specs.Answers.{receiveAnswer};
 
 // What a receive answers beside the session. The bytes of data are had by the host's `payload`.
@@ -39,22 +37,5 @@ pub fn receive_in(session: &mut HostSession, piece: &[u8], stage: &mut [u8]) -> 
         identity: done.identity,
         place: done.place,
         length: done.length,
-    }
-}
-
-// `receive_in` on a session that is passed and answered by value.
-pub fn receive_once(session: HostSession, piece: &[u8], stage: &mut [u8]) -> Received
-    ensures { λ r. ⌜ outcome r (now (stage .exit)) ≡ receiveOf session (now (piece .entry)) (now (stage .entry)) ⌝ }
-{
-    let mut s = session;
-    let answer = receive_in(&mut s, piece, stage);
-    Received {
-        refusal: answer.refusal,
-        consumed: answer.consumed,
-        event: answer.event,
-        identity: answer.identity,
-        place: answer.place,
-        length: answer.length,
-        session: s,
     }
 }

@@ -24,12 +24,13 @@ use Rattle.lines.proofs.Texts.{text-puts}
 use Rattle.reach.specs.Reach.{limit, addsUp, refusedBytes, reached}
 use Rattle.reach.proofs.Sums.{adds-low}
 use Rattle.listing.specs.Listing.{openAfter}
-use Rattle.listing.specs.Steps.{listingOf, readOf, settled, isSettled, soundListing, listed, Outcome, outcome, opens, lineOf, recordListed, pushed, stepOf}
+use Rattle.settle.specs.Settled.{settled, isSettled}
+use Rattle.listing.specs.Steps.{listingOf, readOf, soundListing, listed, Outcome, outcome, opens, lineOf, recordListed, pushed, stepOf}
 use Rattle.listing.specs.declared.listing.Listing.{Listing}
 use Rattle.listing.specs.declared.listing.Listed.{Listed}
 use Rattle.listing.proofs.Kept.{keeps}
 use Rattle.listing.proofs.Counts.{Came, came}
-use Rattle.listing.proofs.Settled.{settled-number, settled-sound, settled-held, settles}
+use Rattle.settle.proofs.Settled.{settled-number, settled-sound, settled-held, settles}
 
 -- ---- soundness
 module _ (s : Listing) (c : Count) (e : c ≡ counted (s .parser) (bufferedOf (s .parser))) where

@@ -1,6 +1,5 @@
 pub mod Kept
 pub mod Counts
-pub mod Settled
 pub mod Cases
 pub mod Lines
 pub mod Bounds

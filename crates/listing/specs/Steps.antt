@@ -2,21 +2,21 @@
 use Prim.Native.Nat.{ℕ, zero, suc, _+_, _-_}
 use mathlib.Core.Bool.{Bool, _&&_}
 use mathlib.Core.List.{List, [], _∷_}
-use lib.ListN.{length, take, drop, replicate}
-use lib.Dec.{eqb, leb, ltb}
+use lib.ListN.{length, take, drop}
+use lib.Dec.{leb, ltb}
 use Rattle.wire.specs.Bytes.{overlay}
 use Rattle.wire.specs.Refusals.{pick, refusal, none, first, passes}
 use Rattle.protocol.specs.Outer as outer
 use Rattle.protocol.specs.Outer.{maxPayload, write}
 use Rattle.wire.specs.declared.refusal.Refusal.{Refusal}
 use Rattle.types.specs.Types.{codeOf}
-use Rattle.record.specs.Record.{allZero}
 use Rattle.record.specs.declared.record.Record.{Record}
 use Rattle.parser.specs.Push as parser
-use Rattle.parser.specs.Push.{parserOf, soundParser, pushOf, bufferedOf, payloadAt}
+use Rattle.parser.specs.Push.{soundParser, pushOf, bufferedOf, payloadAt}
 use Rattle.parser.specs.declared.parser.RecordParser.{RecordParser}
 use Rattle.parser.specs.declared.parser.Pushed.{Pushed}
 use Rattle.reach.specs.Reach.{limit, addsUp, refusedBytes}
+use Rattle.settle.specs.Settled.{settled, isSettled}
 use Rattle.lines.specs.Lines.{lineRoom, names, line, ending}
 use Rattle.listing.specs.Listing.{openAfter}
 use Rattle.listing.specs.declared.listing.Listing.{Listing}
@@ -32,21 +32,6 @@ fresh = listingOf parser.fresh 0 0
 -- how many bytes were read: up to the record under way, and those of it
 abbrev pub readOf : Listing → ℕ
 readOf s = s .offset + bufferedOf (s .parser)
-
--- ---- what a listing keeps of its parser
--- between records no byte of a header, and of the refusal that ended the capture its number alone
-abbrev pub idle : ℕ → RecordParser
-idle number = parserOf (replicate 44 0) 0 0 (refusal number 0 0 0)
-
-unfoldable pub settled : RecordParser → RecordParser
-settled p = pick (eqb (p .«header_len») 0) (idle (p .error .number)) p
-
--- so what has not come of a header is 0, and so is all of a refusal but its number
-unfoldable pub numberOnly : Refusal → Bool
-numberOnly r = eqb (r .a) 0 && (eqb (r .b) 0 && (eqb (r .c) 0 && (allZero (r .expected) && allZero (r .actual))))
-
-unfoldable pub isSettled : RecordParser → Bool
-isSettled p = numberOnly (p .error) && allZero (drop (p .«header_len») (p .header))
 
 -- ---- soundness
 -- a sound parser of which no more is kept, at most 2^62 bytes read, and an offset and open that whole records leave: exactly what calls

@@ -1,18 +1,15 @@
 // The listing's state by value, whether it is sound, the line of names and the last line.
-use checks::all_zero;
 use lines::LINE;
 use lines::put_ending;
 use lines::put_names;
 use parser::parser::RecordParser;
-use protocol::outer::OUTER_HEADER_LEN;
 use protocol::outer::Written;
 use reach::reached;
+use settle::is_settled;
 use wire::refusal::Refusal;
 ghost use mathlib.Core.Path.{_≡_};
-ghost use lib.ListN.{drop};
 ghost use Rattle.protocol.specs.Outer as outer;
-ghost use Rattle.record.specs.Record.{allZero};
-ghost use Rattle.listing.specs.Steps.{fresh, numberOnly, isSettled, soundListing, namesOf, endOf};
+ghost use Rattle.listing.specs.Steps.{fresh, soundListing, namesOf, endOf};
 
 // The record under way in its parser, its offset in the capture, and 01's open before it. Between
 // records the parser has no byte of a header, and of a refusal it has the number alone.
@@ -46,53 +43,6 @@ pub fn names(output: &mut [u8]) -> Written
         refusal: Refusal::none(),
         next,
     }
-}
-
-// Whether a refusal is its number alone.
-fn is_number(refusal: Refusal) -> bool
-    ensures { λ r. ⌜ r ≡ numberOnly refusal ⌝ }
-{
-    if refusal.a != 0 {
-        return false;
-    }
-    if refusal.b != 0 {
-        return false;
-    }
-    if refusal.c != 0 {
-        return false;
-    }
-    let expected = refusal.expected;
-    if !all_zero(expected) {
-        return false;
-    }
-    let actual = refusal.actual;
-    all_zero(actual)
-}
-
-// Whether the bytes of a header are all zero from an index on.
-fn zero_from(header: [u8; 44], from: usize) -> bool
-    ensures { λ r. ⌜ r ≡ allZero (drop «from» header) ⌝ }
-{
-    let mut zero = true;
-    let mut i = from;
-    while i < OUTER_HEADER_LEN {
-        if header[i] != 0 {
-            zero = false;
-        }
-        i += 1;
-    }
-    zero
-}
-
-// Whether no more of a parser is kept than a listing keeps.
-fn is_settled(parser: RecordParser) -> bool
-    ensures { λ r. ⌜ r ≡ isSettled parser ⌝ }
-{
-    if !is_number(parser.error) {
-        return false;
-    }
-    let header = parser.header;
-    zero_from(header, parser.header_len)
 }
 
 impl Listing {

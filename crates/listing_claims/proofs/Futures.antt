@@ -35,10 +35,11 @@ use Rattle.decimal.proofs.Digits.{number-length}
 use Rattle.lines.specs.Lines.{line, ending}
 use Rattle.reach.specs.Reach.{limit}
 use Rattle.listing.specs.Listing.{openAfter, linesFrom}
-use Rattle.listing.specs.Steps.{listingOf, readOf, settled, soundListing, listed, Outcome, outcome, opens, lineOf, recordListed, pushed, stepOf}
+use Rattle.settle.specs.Settled.{settled}
+use Rattle.listing.specs.Steps.{listingOf, readOf, soundListing, listed, Outcome, outcome, opens, lineOf, recordListed, pushed, stepOf}
 use Rattle.listing.specs.declared.listing.Listing.{Listing}
 use Rattle.listing.proofs.Counts.{came}
-use Rattle.listing.proofs.Settled.{settled-number, settled-sound}
+use Rattle.settle.proofs.Settled.{settled-number, settled-sound}
 use Rattle.listing.proofs.Cases.{facts, Stepped, stepped}
 use Rattle.listing_claims.proofs.Scanned.{refused-lines, whole-lines}
 

@@ -24,7 +24,8 @@ use Rattle.claims.proofs.Feeds.{Placed, bytesIn, matches}
 use Rattle.lines.specs.Lines.{lineRoom}
 use Rattle.reach.specs.Reach.{limit}
 use Rattle.listing.specs.Listing.{openAfter}
-use Rattle.listing.specs.Steps.{listingOf, readOf, idle, settled, listed, Outcome, outcome, recordListed, stepOf, lines, listRows, readable, listOf}
+use Rattle.settle.specs.Settled.{idle, settled}
+use Rattle.listing.specs.Steps.{listingOf, readOf, listed, Outcome, outcome, recordListed, stepOf, lines, listRows, readable, listOf}
 use Rattle.listing.specs.Calls.{Calls, stop, call}
 use Rattle.listing.specs.declared.listing.Listing.{Listing}
 use Rattle.listing.proofs.Lines.{lines-end, lines-step}

@@ -36,11 +36,12 @@ use Rattle.claims.proofs.Feeds.{fresh-ready}
 use Rattle.lines.specs.Lines.{lineRoom}
 use Rattle.reach.specs.Reach.{limit, others, addsUp, refusedBytes}
 use Rattle.listing.specs.Listing.{openAfter}
-use Rattle.listing.specs.Steps.{listingOf, fresh, idle, settled, numberOnly, isSettled, soundListing, listOf, Outcome}
+use Rattle.settle.specs.Settled.{idle, settled, numberOnly, isSettled}
+use Rattle.listing.specs.Steps.{listingOf, fresh, soundListing, listOf, Outcome}
 use Rattle.listing.specs.Calls as calls
 use Rattle.listing.specs.Calls.{Calls, stop, call, written, all-taken}
 use Rattle.listing.specs.declared.listing.Listing.{Listing}
-use Rattle.listing.proofs.Settled.{keeps-all}
+use Rattle.settle.proofs.Settled.{keeps-all}
 use Rattle.listing.proofs.Cases.{facts}
 use Rattle.reach.proofs.Sums.{Rest, nothing, plain, attach, many, value, Sum, sum-of, refused-0}
 use Rattle.listing_claims.specs.Claims.{Sized, Reached, SoundIsReached}

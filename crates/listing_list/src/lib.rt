@@ -4,13 +4,13 @@ use lines::put_line;
 use listing::listing::Listed;
 use listing::listing::Listing;
 use parser::parser::Pushed;
-use parser::parser::RecordParser;
 use parser::parser::payload;
 use parser_push::push;
 use payloads::value;
 use protocol::outer::OUTER_MAX_PAYLOAD;
 use reach::LIMIT;
 use record::record::Record;
+use settle::settle;
 use wire::refusal::Refusal;
 ghost use mathlib.Core.Path.{_≡_};
 ghost use mathlib.Core.Bool.{true};
@@ -20,8 +20,9 @@ ghost use Rattle.wire.specs.Bytes.{overlay};
 ghost use Rattle.wire.specs.Refusals.{none};
 ghost use Rattle.types.specs.Types.{codeOf};
 ghost use Rattle.reach.specs.Reach.{limit};
+ghost use Rattle.settle.specs.Settled.{settled};
 ghost use Rattle.listing.specs.Listing.{openAfter};
-ghost use Rattle.listing.specs.Steps.{listingOf, readOf, settled, soundListing, listed, lineOf, recordListed, stepOf, further, lines, listOf, outcome};
+ghost use Rattle.listing.specs.Steps.{listingOf, readOf, soundListing, listed, lineOf, recordListed, stepOf, further, lines, listOf, outcome};
 
 // Nothing changed.
 fn stop(listing: Listing, refusal: Refusal) -> Listed
@@ -74,22 +75,6 @@ fn code_of(record: Record) -> u8
 {
     let record_type = record.record_type;
     record_type.code()
-}
-
-// What a listing keeps of a parser: between records no byte of a header, and of a refusal its
-// number alone.
-fn settle(parser: RecordParser) -> RecordParser
-    ensures { λ r. ⌜ r ≡ settled parser ⌝ }
-{
-    if parser.header_len != 0 {
-        return parser;
-    }
-    RecordParser {
-        header: [0u8; 44],
-        header_len: 0,
-        payload_len: 0,
-        error: Refusal::new(parser.error.number, 0, 0, 0),
-    }
 }
 
 // A record is complete: its line, and the state after it. It stands at `offset`, and `before` is

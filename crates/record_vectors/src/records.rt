@@ -8,8 +8,8 @@ use protocol::outer::put_record;
 use types::RecordType;
 use wire::Epoch;
 use wire::Sequence;
-ghost use mathlib.Core.Path.{_≡_};
-ghost use Prim.Native.Nat.{_≤_, min};
+use wire::bytes::least;
+ghost use Prim.Native.Nat.{_≤_};
 
 // Instance, epoch and sequence of a record.
 pub struct Fields {
@@ -93,12 +93,6 @@ fn encoded(record_type: RecordType, fields: Fields, payload: &[u8], output: &mut
 fn length_of(payload: &[u8]) -> u32 {
     let n = payload.len();
     if n < 4294967296 { n as u32 } else { 4294967295 }
-}
-
-fn least(a: usize, b: usize) -> usize
-    ensures { λ r. ⌜ r ≡ min a b ⌝ }
-{
-    if a < b { a } else { b }
 }
 
 // Bytes in pieces of `n` to a new parser, on a line.

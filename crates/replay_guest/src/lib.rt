@@ -8,7 +8,7 @@ use guest_accept::GuestEvent;
 use guest_accept::Received;
 use guest_calls::Closed;
 use guest_credit_entry::credit_once;
-use guest_entry::receive_once;
+use guest_once::receive_once;
 use guest_writes::Sent;
 use replay_answer::answer::Answer;
 use replay_answer::answer::Ask;

@@ -6,7 +6,7 @@ use host::host::HostSession;
 use host::host::HostState;
 use host_calls::Closed;
 use host_calls::Sent;
-use host_entry::receive_once;
+use host_once::receive_once;
 use host_receive::HostEvent;
 use host_receive::Received;
 use replay_answer::answer::Answer;

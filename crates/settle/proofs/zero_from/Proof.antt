@@ -1,4 +1,4 @@
--- `listing::listing::zero_from` meets its contract. The loop's invariant: `zero` says whether the bytes from `from` up to `i` are all zero; `scan-zero` and `scan-other` of proofs/Settled go one byte on. The measure is what is left of 44. Assumes nothing.
+-- `settle::zero_from` meets its contract. The loop's invariant: `zero` says whether the bytes from `from` up to `i` are all zero; `scan-zero` and `scan-other` of proofs/Settled go one byte on. The measure is what is left of 44. Assumes nothing.
 use Prim.Native.Nat.{_-_, _≤_, _<_}
 use mathlib.Core.Path.{_≡_, refl, sym, ap, _∙_}
 use mathlib.Core.Logic.{⊎-elim}
@@ -6,9 +6,9 @@ use native.Mathlib.Omega.{arith}
 use borrow.Author.Needs.{needs}
 use lib.ListN.{length, take, drop}
 use Rattle.record.specs.Record.{allZero}
-use Rattle.listing.proofs.Settled.{scan-start, scan-zero, scan-other, scan-end}
-use Rattle.listing.proofs.listing.zero_from.Statement.{statement}
-use Rattle.listing.proofs.listing.zero_from.Tie as tie
+use Rattle.settle.proofs.Settled.{scan-start, scan-zero, scan-other, scan-end}
+use Rattle.settle.proofs.zero_from.Statement.{statement}
+use Rattle.settle.proofs.zero_from.Tie as tie
 
 abbrev Inv-loop : tie.InvT-loop
 Inv-loop from header zero₀ i₀ zero i = (from ≤ i) × (zero ≡ allZero (take (i - from) (drop from header))) × (length header ≡ 44)

@@ -1,8 +1,8 @@
--- `listing_list::settle` meets its contract. Each return is a case of its rule, `keeping` of the proofs of `listing`. Assumes nothing.
-use Rattle.listing.proofs.Settled.{keeping}
+-- `settle::settle` meets its contract. Each return is a case of its rule, `keeping` of proofs/Settled. Assumes nothing.
+use Rattle.settle.proofs.Settled.{keeping}
 use borrow.Author.Needs.{needs}
-use Rattle.listing_list.proofs.settle.Statement.{statement}
-use Rattle.listing_list.proofs.settle.Tie as tie
+use Rattle.settle.proofs.settle.Statement.{statement}
+use Rattle.settle.proofs.settle.Tie as tie
 
 returns : tie.Need-returns
 returns c = search keeping

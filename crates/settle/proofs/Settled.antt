@@ -22,7 +22,7 @@ use Rattle.parser.specs.declared.parser.RecordParser.{RecordParser}
 use Rattle.parser.specs.declared.parser.Place.{Place}
 use Rattle.parser.specs.declared.parser.Place.the-variants.{Piece, Stage}
 use Rattle.parser.proofs.Cases.{sound-count, sound-empty}
-use Rattle.listing.specs.Steps.{idle, settled, numberOnly, isSettled}
+use Rattle.settle.specs.Settled.{idle, settled, numberOnly, isSettled}
 
 -- ---- a refusal that is its number alone, and a parser: a law for each `return` of the code
 module _ (r : Refusal) where

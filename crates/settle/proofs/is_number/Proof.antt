@@ -1,8 +1,8 @@
--- `listing::listing::is_number` meets its contract. Each return is a case of its rule, `numbering` of proofs/Settled. Assumes nothing.
-use Rattle.listing.proofs.Settled.{numbering}
+-- `settle::is_number` meets its contract. Each return is a case of its rule, `numbering` of proofs/Settled. Assumes nothing.
+use Rattle.settle.proofs.Settled.{numbering}
 use borrow.Author.Needs.{needs}
-use Rattle.listing.proofs.listing.is_number.Statement.{statement}
-use Rattle.listing.proofs.listing.is_number.Tie as tie
+use Rattle.settle.proofs.is_number.Statement.{statement}
+use Rattle.settle.proofs.is_number.Tie as tie
 
 returns : tie.Need-returns
 returns c = search numbering

@@ -1,8 +1,8 @@
--- `listing::listing::is_settled` meets its contract. Each return is a case of its rule, `settling` of proofs/Settled. Assumes nothing.
-use Rattle.listing.proofs.Settled.{settling}
+-- `settle::is_settled` meets its contract. Each return is a case of its rule, `settling` of proofs/Settled. Assumes nothing.
+use Rattle.settle.proofs.Settled.{settling}
 use borrow.Author.Needs.{needs}
-use Rattle.listing.proofs.listing.is_settled.Statement.{statement}
-use Rattle.listing.proofs.listing.is_settled.Tie as tie
+use Rattle.settle.proofs.is_settled.Statement.{statement}
+use Rattle.settle.proofs.is_settled.Tie as tie
 
 is-number-requires : tie.Need-is-number-requires
 is-number-requires c κs = search needs
