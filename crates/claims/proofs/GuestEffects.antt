@@ -23,13 +23,13 @@ use Rattle.guest_accept.specs.Receive as R
 use Rattle.guest_writes.specs.Writes as W
 use Rattle.guest_calls.specs.Calls as C
 use Rattle.guest_send.specs.Send as S
-use Rattle.guest.specs.Asks as A
+use Rattle.guest_asks.specs.Asks as A
 use Rattle.guest.specs.declared.guest.GuestState.the-variants as State
 use Rattle.guest_accept.specs.declared.GuestEvent.the-variants as Event
 use Rattle.guest.specs.declared.guest.GuestSession.{GuestSession}
 use Rattle.guest_accept.specs.declared.Received.{Received}
 use Rattle.guest_calls.specs.declared.Closed.{Closed}
-use Rattle.guest.specs.declared.guest.WindowAnswer.{WindowAnswer}
+use Rattle.guest_asks.specs.declared.WindowAnswer.{WindowAnswer}
 use Rattle.claims.specs.Reading.{heldBytes, Ready, Staged}
 use Rattle.claims.specs.GuestCalls.{Lent, Writing, attach, acknowledge, send, credit, Call, receive, write, disconnect, ask}
 use Rattle.claims.specs.GuestCalls.{Ask, askState, askIdentity, askWindow, askOutstanding, askNeeded}

@@ -20,7 +20,7 @@ use Rattle.guest_accept.specs.Receive as R
 use Rattle.guest_writes.specs.Writes as W
 use Rattle.guest_calls.specs.Calls as C
 use Rattle.guest_send.specs.Send as S
-use Rattle.guest.specs.Asks as A
+use Rattle.guest_asks.specs.Asks as A
 use Rattle.guest.specs.declared.guest.GuestState.the-variants as State
 use Rattle.guest_accept.specs.declared.GuestEvent.{GuestEvent}
 use Rattle.guest_accept.specs.declared.GuestEvent.the-variants as Event

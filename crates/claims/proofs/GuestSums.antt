@@ -13,7 +13,7 @@ use Rattle.record.specs.Record.{recordWith}
 use Rattle.record.specs.declared.record.Record.{Record}
 use Rattle.parser.specs.Push.{Push, pushStage, payloadAt}
 use Rattle.guest.specs.State.{soundGuest}
-use Rattle.guest.specs.Asks.{outstandingOf}
+use Rattle.guest_asks.specs.Asks.{outstandingOf}
 use Rattle.guest.specs.declared.guest.GuestSession.{GuestSession}
 use Rattle.claims.specs.GuestCalls.{Writing, Call, write, sent, Endpoint, Step, step, fresh}
 use Rattle.claims.specs.GuestHistory.{after, trace, history, Tally, noTally, count, countSent}

@@ -24,7 +24,7 @@ use Rattle.session.specs.declared.session.Identity.{Identity}
 use Rattle.host.specs.State.{isBegun, soundHost}
 use Rattle.host_checks.specs.Checks.{typeRows, recordRows}
 use Rattle.host_receive.specs.Receive as Receive
-use Rattle.host.specs.Asks as Asks
+use Rattle.host_asks.specs.Asks as Asks
 use Rattle.host_calls.specs.Calls as Calls
 use Rattle.host.specs.declared.host.HostSession.{HostSession}
 use Rattle.host_calls.specs.declared.Closed.{Closed}

@@ -14,16 +14,16 @@ use Rattle.guest_accept.specs.Receive as Receive
 use Rattle.guest_writes.specs.Writes as Writes
 use Rattle.guest_calls.specs.Calls as Calls
 use Rattle.guest_send.specs.Send as Sends
-use Rattle.guest.specs.Asks as Asks
+use Rattle.guest_asks.specs.Asks as Asks
 use Rattle.guest_accept.specs.declared.GuestEvent.{GuestEvent}
 use Rattle.guest_accept.specs.declared.GuestEvent.the-variants as Event
 use Rattle.guest.specs.declared.guest.GuestSession.{GuestSession}
 use Rattle.guest_accept.specs.declared.Received.{Received}
 use Rattle.guest_calls.specs.declared.Closed.{Closed}
-use Rattle.guest.specs.declared.guest.StateAnswer.{StateAnswer}
-use Rattle.guest.specs.declared.guest.IdentityAnswer.{IdentityAnswer}
-use Rattle.guest.specs.declared.guest.WindowAnswer.{WindowAnswer}
-use Rattle.guest.specs.declared.guest.OutstandingAnswer.{OutstandingAnswer}
+use Rattle.guest_asks.specs.declared.StateAnswer.{StateAnswer}
+use Rattle.guest_asks.specs.declared.IdentityAnswer.{IdentityAnswer}
+use Rattle.guest_asks.specs.declared.WindowAnswer.{WindowAnswer}
+use Rattle.guest_asks.specs.declared.OutstandingAnswer.{OutstandingAnswer}
 
 -- ---- calls
 -- the stage that a receive is lent: the session's own, or another

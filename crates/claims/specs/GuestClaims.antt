@@ -12,10 +12,10 @@ use Rattle.protocol.specs.Outer.{maxPayload}
 use Rattle.record.specs.Record.{headerChecks}
 use Rattle.parser.specs.Push.{bufferedOf}
 use Rattle.guest.specs.State.{isFailed, soundGuest}
-use Rattle.guest.specs.Asks.{outstandingOf}
+use Rattle.guest_asks.specs.Asks.{outstandingOf}
 use Rattle.guest_accept.specs.declared.GuestEvent.the-variants as Event
 use Rattle.guest.specs.declared.guest.GuestSession.{GuestSession}
-use Rattle.guest.specs.declared.guest.OutstandingAnswer.{OutstandingAnswer}
+use Rattle.guest_asks.specs.declared.OutstandingAnswer.{OutstandingAnswer}
 use Rattle.claims.specs.GuestCalls.{own, other, Writing, Ask, Call, receive, write, disconnect, ask, Answer, refusalOf, eventOf, Endpoint, step, fresh}
 use Rattle.claims.specs.GuestHistory.{after, Seen, trace, history, AllOwnOrShorter, Tally, noTally, count, Transcript, noTranscript, transcribe, handedBytes}
 

@@ -13,12 +13,12 @@ use Rattle.parser.specs.declared.parser.Count.{Count}
 use Rattle.session.specs.declared.session.Identity.{Identity}
 use Rattle.host.specs.State.{freshHost, soundHost}
 use Rattle.host_receive.specs.Receive as Receive
-use Rattle.host.specs.Asks as Asks
+use Rattle.host_asks.specs.Asks as Asks
 use Rattle.host_calls.specs.Calls as Calls
 use Rattle.host_receive.specs.declared.HostEvent.{HostEvent}
 use Rattle.host.specs.declared.host.HostSession.{HostSession}
-use Rattle.host.specs.declared.host.StateAnswer.{StateAnswer}
-use Rattle.host.specs.declared.host.IdentityAnswer.{IdentityAnswer}
+use Rattle.host_asks.specs.declared.StateAnswer.{StateAnswer}
+use Rattle.host_asks.specs.declared.IdentityAnswer.{IdentityAnswer}
 
 -- ---- calls and answers
 pub data HostCall : Type 0 where

@@ -2,8 +2,8 @@
 use checks::check_bootstrap;
 use checks::check_length;
 use checks::check_payload;
+use header_bytes::encode_header;
 use header_checks::check_header;
-use headers::encode_header;
 use protocol::outer::Written;
 use protocol::outer::put_record;
 use record::record::ParsedHeader;

@@ -1,18 +1,15 @@
-// The guest's session by value, whether it is sound, and what it answers when asked. `guest_receive`,
-// `guest_calls` and `guest_send` have the operations that change it.
-use parser::parser::Count;
+// The guest's session by value, and whether it is sound. `guest_asks` has what it answers when asked,
+// and `guest_receive`, `guest_calls` and `guest_send` the operations that change it.
 use parser::parser::RecordParser;
 use payloads::OUTER_MAX_RECEIVE_WINDOW;
 use session::session::OptionalIdentity;
 use session::session::no_identity;
 use wire::Sequence;
-use wire::refusal::Refusal;
 ghost use mathlib.Core.Path.{_≡_};
 ghost use mathlib.Core.Bool.{not, _&&_, _||_};
 ghost use lib.Dec.{leb};
 ghost use Rattle.session.specs.Checks.{holds};
 ghost use Rattle.guest.specs.State.{code, freshGuest, soundGuest, activeGuest, figuresOk, withState};
-ghost use Rattle.guest.specs.Asks.{stateOf, identityOf, windowOf, noWindow, outstandingOf, neededBy};
 
 // State of the guest's session.
 pub enum GuestState {
@@ -34,31 +31,6 @@ pub struct GuestSession {
     pub window: u32,
     pub outstanding: u32,
     pub state: GuestState,
-}
-
-// What `state` answers.
-pub struct StateAnswer {
-    pub refusal: Refusal,
-    pub state: GuestState,
-}
-
-// What `identity` answers.
-pub struct IdentityAnswer {
-    pub refusal: Refusal,
-    pub identity: OptionalIdentity,
-}
-
-// What `window` answers: none unless Active.
-pub struct WindowAnswer {
-    pub refusal: Refusal,
-    pub present: bool,
-    pub window: u32,
-}
-
-// What `outstanding` answers.
-pub struct OutstandingAnswer {
-    pub refusal: Refusal,
-    pub outstanding: u32,
 }
 
 impl GuestState {
@@ -107,17 +79,6 @@ fn figures_ok(state: u8, window: u32, outstanding: u32, identity: OptionalIdenti
         return identity_ok(state, identity);
     }
     identity_ok(state, identity)
-}
-
-// No window is told.
-fn no_window(refusal: Refusal) -> WindowAnswer
-    ensures { λ r. ⌜ r ≡ noWindow refusal ⌝ }
-{
-    WindowAnswer {
-        refusal,
-        present: false,
-        window: 0,
-    }
 }
 
 impl GuestSession {
@@ -184,88 +145,5 @@ impl GuestSession {
             outstanding: self.outstanding,
             state,
         }
-    }
-
-    // The session's state.
-    pub fn state(self) -> StateAnswer
-        ensures { λ r. ⌜ r ≡ stateOf self ⌝ }
-    {
-        let state = self.state;
-        if self.is_sound() {
-            return StateAnswer {
-                refusal: Refusal::none(),
-                state,
-            };
-        }
-        StateAnswer {
-            refusal: Refusal::new(23, 0, 0, 0),
-            state: GuestState::Detached,
-        }
-    }
-
-    // The identity that the session holds.
-    pub fn identity(self) -> IdentityAnswer
-        ensures { λ r. ⌜ r ≡ identityOf self ⌝ }
-    {
-        if self.is_sound() {
-            return IdentityAnswer {
-                refusal: Refusal::none(),
-                identity: self.identity.shown(),
-            };
-        }
-        IdentityAnswer {
-            refusal: Refusal::new(23, 0, 0, 0),
-            identity: OptionalIdentity {
-                present: false,
-                identity: no_identity(),
-            },
-        }
-    }
-
-    // The receive window, none unless Active.
-    pub fn window(self) -> WindowAnswer
-        ensures { λ r. ⌜ r ≡ windowOf self ⌝ }
-    {
-        if !self.is_sound() {
-            return no_window(Refusal::new(23, 0, 0, 0));
-        }
-        let state = self.state;
-        if state.number() == 3 {
-            return WindowAnswer {
-                refusal: Refusal::none(),
-                present: true,
-                window: self.window,
-            };
-        }
-        no_window(Refusal::none())
-    }
-
-    // The bytes handed out and not credited.
-    pub fn outstanding(self) -> OutstandingAnswer
-        ensures { λ r. ⌜ r ≡ outstandingOf self ⌝ }
-    {
-        if self.is_sound() {
-            return OutstandingAnswer {
-                refusal: Refusal::none(),
-                outstanding: self.outstanding,
-            };
-        }
-        OutstandingAnswer {
-            refusal: Refusal::new(23, 0, 0, 0),
-            outstanding: 0,
-        }
-    }
-
-    // How many more bytes complete the header or the payload in progress.
-    pub fn needed(self) -> Count
-        ensures { λ r. ⌜ r ≡ neededBy self ⌝ }
-    {
-        if !self.is_sound() {
-            return Count {
-                refusal: Refusal::new(23, 0, 0, 0),
-                count: 0,
-            };
-        }
-        self.parser.needed()
     }
 }

@@ -1,8 +1,8 @@
 // The checks of a record's header (01, 1 to 6), whole and as short tests.
 use checks::check_bootstrap;
 use checks::check_length;
-use headers::OUTER_MAGIC;
-use headers::OUTER_VERSION;
+use header_bytes::OUTER_MAGIC;
+use header_bytes::OUTER_VERSION;
 use numbers::u32_from_le_bytes;
 use types::RecordType;
 use types::TypeLookup;

@@ -1,17 +1,14 @@
-// The host's session by value, and what it is asked. The crate `host_checks` has what stops a record,
-// `host_receive` its receive, and `host_calls` its other calls.
-use parser::parser::Count;
+// The host's session by value, and whether it is sound. `host_asks` has what it answers when asked,
+// `host_checks` what stops a record, `host_receive` its receive, and `host_calls` its other calls.
 use parser::parser::RecordParser;
 use session::session::OptionalIdentity;
 use session::session::no_identity;
 use wire::Sequence;
-use wire::refusal::Refusal;
 ghost use mathlib.Core.Path.{_≡_};
 ghost use mathlib.Core.Bool.{not, _||_};
 ghost use lib.Dec.{eqb};
 ghost use Rattle.session.specs.Checks.{holds};
 ghost use Rattle.host.specs.State.{code, freshHost, soundHost, withState};
-ghost use Rattle.host.specs.Asks.{stateTold, stateOf, identityTold, identityOf, neededBy};
 
 // State of the host's session.
 pub enum HostState {
@@ -31,18 +28,6 @@ pub struct HostSession {
     pub receive_sequence: Sequence,
     pub send_sequence: Sequence,
     pub state: HostState,
-}
-
-// What `state` answers.
-pub struct StateAnswer {
-    pub refusal: Refusal,
-    pub state: HostState,
-}
-
-// What `identity` answers.
-pub struct IdentityAnswer {
-    pub refusal: Refusal,
-    pub identity: OptionalIdentity,
 }
 
 impl HostState {
@@ -70,20 +55,6 @@ fn identity_ok(state: u8, identity: OptionalIdentity) -> bool
         return true;
     }
     identity.is_held()
-}
-
-// The answer of `state`.
-fn state_told(refusal: Refusal, state: HostState) -> StateAnswer
-    ensures { λ r. ⌜ r ≡ stateTold refusal state ⌝ }
-{
-    StateAnswer { refusal, state }
-}
-
-// The answer of `identity`.
-fn identity_told(refusal: Refusal, identity: OptionalIdentity) -> IdentityAnswer
-    ensures { λ r. ⌜ r ≡ identityTold refusal identity ⌝ }
-{
-    IdentityAnswer { refusal, identity }
 }
 
 impl HostSession {
@@ -128,43 +99,5 @@ impl HostSession {
             send_sequence,
             state,
         }
-    }
-
-    // The session's state.
-    pub fn state(self) -> StateAnswer
-        ensures { λ r. ⌜ r ≡ stateOf self ⌝ }
-    {
-        let state = self.state;
-        if self.is_sound() {
-            return state_told(Refusal::none(), state);
-        }
-        state_told(Refusal::new(23, 0, 0, 0), HostState::Detached)
-    }
-
-    // The identity that the session holds.
-    pub fn identity(self) -> IdentityAnswer
-        ensures { λ r. ⌜ r ≡ identityOf self ⌝ }
-    {
-        if self.is_sound() {
-            return identity_told(Refusal::none(), self.identity.shown());
-        }
-        let missing = OptionalIdentity {
-            present: false,
-            identity: no_identity(),
-        };
-        identity_told(Refusal::new(23, 0, 0, 0), missing)
-    }
-
-    // How many more bytes complete the header or the payload in progress.
-    pub fn needed(self) -> Count
-        ensures { λ r. ⌜ r ≡ neededBy self ⌝ }
-    {
-        if !self.is_sound() {
-            return Count {
-                refusal: Refusal::new(23, 0, 0, 0),
-                count: 0,
-            };
-        }
-        self.parser.needed()
     }
 }

@@ -1,5 +1,5 @@
 // decode_outer_header: the fields it reads, and refusals 25 and 26.
-use headers::encode_header;
+use header_bytes::encode_header;
 use protocol::outer::OuterHeader;
 use protocol::outer::decode_outer_header;
 use wire::Epoch;

@@ -1,8 +1,8 @@
 // Outer records (magic `NVXS`): the port of outer.rs. A record is a 44-byte header and a payload.
 use copying::copy_at;
-use headers::OUTER_MAGIC;
-use headers::OUTER_VERSION;
-use headers::encode_header;
+use header_bytes::OUTER_MAGIC;
+use header_bytes::OUTER_VERSION;
+use header_bytes::encode_header;
 use numbers::u32_from_le_bytes;
 use wire::Epoch;
 use wire::Sequence;

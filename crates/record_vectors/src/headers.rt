@@ -2,7 +2,7 @@
 use crate::records::Fields;
 use crate::records::in_pieces;
 use crate::records::there_and_back;
-use headers::encode_header;
+use header_bytes::encode_header;
 use types::RecordType;
 use wire::Epoch;
 use wire::Sequence;

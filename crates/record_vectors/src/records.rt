@@ -1,7 +1,7 @@
 // One record through the encoder and through a parser.
 use crate::answers;
 use codec::encode_record;
-use headers::encode_header;
+use header_bytes::encode_header;
 use parser::parser::RecordParser;
 use protocol::outer::Written;
 use protocol::outer::put_record;

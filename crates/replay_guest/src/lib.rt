@@ -3,9 +3,9 @@
 // `ensures`. It is proved safe and to end; the run holds what it does to the Rust's answers.
 use guest::guest::GuestSession;
 use guest::guest::GuestState;
-use guest::guest::WindowAnswer;
 use guest_accept::GuestEvent;
 use guest_accept::Received;
+use guest_asks::WindowAnswer;
 use guest_calls::Closed;
 use guest_credit_entry::credit_once;
 use guest_once::receive_once;
@@ -152,9 +152,9 @@ fn ask(w: WindowAnswer) -> Ask {
 
 // state and identity.
 fn who(g: GuestSession) -> Answer {
-    let asked = g.state();
+    let asked = guest_asks::state(g);
     let state = asked.state;
-    let held = g.identity();
+    let held = guest_asks::identity(g);
     let optional = held.identity;
     let answer = put1(refused(asked.refusal), EVENT, state_number(state));
     put_identity(answer, IDENTITY, optional.identity)
@@ -162,9 +162,9 @@ fn who(g: GuestSession) -> Answer {
 
 // state, identity, window, outstanding and needed.
 fn asks(g: GuestSession) -> Answer {
-    let outstanding = g.outstanding();
-    let needed = g.needed();
-    let mut answer = put_ask(who(g), 112, 116, ask(g.window()));
+    let outstanding = guest_asks::outstanding(g);
+    let needed = guest_asks::needed(g);
+    let mut answer = put_ask(who(g), 112, 116, ask(guest_asks::window(g)));
     answer = put8(answer, COUNT, outstanding.outstanding as u64);
     put8(answer, NEXT, needed.count as u64)
 }

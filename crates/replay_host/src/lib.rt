@@ -150,9 +150,9 @@ fn disconnect(h: HostSession) -> Ran {
 
 // state and identity.
 fn who(h: HostSession) -> Answer {
-    let asked = h.state();
+    let asked = host_asks::state(h);
     let state = asked.state;
-    let held = h.identity();
+    let held = host_asks::identity(h);
     let optional = held.identity;
     let answer = put1(refused(asked.refusal), EVENT, state_number(state));
     put_identity(answer, IDENTITY, optional.identity)
@@ -160,7 +160,7 @@ fn who(h: HostSession) -> Answer {
 
 // state, identity and needed.
 fn asks(h: HostSession) -> Answer {
-    let needed = h.needed();
+    let needed = host_asks::needed(h);
     put8(who(h), NEXT, needed.count as u64)
 }
 
