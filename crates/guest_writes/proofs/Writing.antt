@@ -1,20 +1,21 @@
 -- The cases of every call that writes: what stops it, nothing written, written. Assumes nothing.
 use Prim.Native.Nat.{ℕ, _+_, _^_, _<_}
 use mathlib.Core.Path.{_≡_, refl, sym, ap, _∙_}
-use mathlib.Core.Bool.{Bool, true, false, not}
+use mathlib.Core.Bool.{Bool, true, false}
 use mathlib.Core.List.{List, [], _∷_, _++_}
 use lib.ListN.{length}
 use lib.Dec.{eqb}
-use borrow.Author.Tests.{eq-eqb, ne-eqb, not-true, not-false}
+use borrow.Author.Tests.{eq-eqb, ne-eqb}
 use Rattle.wire.specs.Bytes.{toLe, overlay}
-use Rattle.wire.specs.Refusals.{refusal, none, first, passes}
+use Rattle.wire.specs.Refusals.{refusal, first, passes}
 use Rattle.protocol.specs.Outer.{valueOf, write}
 use Rattle.protocol.specs.Outer as outer
 use Rattle.wire.specs.declared.refusal.Refusal.{Refusal}
 use Rattle.protocol.specs.declared.outer.Written.{Written}
 use Rattle.wire.proofs.Numbers.{from-to, length-to}
-use Rattle.wire.proofs.Rows.{passed, row-stops, row-passes, no-rows, rows-stop, rows-pass}
+use Rattle.wire.proofs.Rows.{passed, rows-stop, rows-pass}
 use Rattle.protocol.proofs.Writes.{write-stops, write-done}
+use Rattle.session_checks.proofs.Stopping.{beginRows}
 use Rattle.guest.specs.State.{code, soundGuest}
 use Rattle.guest.specs.declared.guest.GuestSession.{GuestSession}
 use Rattle.guest_writes.specs.Writes.{soundRow, outcome, notSent, sentRecord, writes}
@@ -46,26 +47,10 @@ module _ (v : Refusal) (g after : GuestSession) (count : ℕ) (bytes o : List �
 abbrev pub begin : GuestSession → ℕ → List (Bool × Refusal)
 begin g state = soundRow g ∷ (eqb (code (g .state)) state, refusal 20 0 0 0) ∷ []
 
-abbrev pub beginRows : Bool → ℕ → ℕ → List (Bool × Refusal)
-beginRows b k state = (b, refusal 23 0 0 0) ∷ (eqb k state, refusal 20 0 0 0) ∷ []
-
-module _ (b : Bool) (k state : ℕ) (x : Refusal) where
-  pub stopped-23 : not b ≡ true → x ≡ refusal 23 0 0 0 → x ≡ first (beginRows b k state)
-  stopped-23 n ex = row-stops _ _ x _ (not-true b n) ex
-
-  module _ (n : not b ≡ false) where
-    pub stopped-20 : (k ≡ state → ⊥) → x ≡ refusal 20 0 0 0 → x ≡ first (beginRows b k state)
-    stopped-20 h ex = row-passes _ _ x _ (not-false b n) (row-stops _ _ x _ (ne-eqb k state h) ex)
-
-    pub stopped-not : k ≡ state → x ≡ none → x ≡ first (beginRows b k state)
-    stopped-not h ex = row-passes _ _ x _ (not-false b n) (row-passes _ _ x _ (eq-eqb k state h) (no-rows x ex))
-
 -- what is told of the session is what its rows test
 pub told-of : (g : GuestSession) (state : ℕ) (b : Bool) (k : ℕ) (x : Refusal) → b ≡ soundGuest g → k ≡ code (g .state) → x ≡ first (beginRows b k state)
     → x ≡ first (begin g state)
 told-of g state b k x eb ek ex = ex ∙ (ap (λ (c : Bool). first (beginRows c k state)) eb ∙ ap (λ (m : ℕ). first (beginRows (soundGuest g) m state)) ek)
-
-pub ruleset stopping = (stopped-23, stopped-20, stopped-not)
 
 module _ (g after : GuestSession) (count : ℕ) (bytes o : List ℕ) (at : ℕ) (r : Sent) (state : ℕ) (rows : List (Bool × Refusal)) (x : Refusal) (ex : x ≡ first (begin g state)) where
   pub call-stops : (x .number ≡ 0 → ⊥) → r ≡ notSent x g → outcome r o ≡ writes (first (begin g state ++ rows)) g after count bytes o at

@@ -13,13 +13,14 @@ use Rattle.protocol.specs.Outer.{write, roomRow}
 use Rattle.protocol.specs.Outer as outer
 use Rattle.wire.specs.declared.refusal.Refusal.{Refusal}
 use Rattle.protocol.specs.declared.outer.Written.{Written}
-use Rattle.wire.proofs.Rows.{row-stops, row-passes, no-rows, rows-stop, rows-pass}
+use Rattle.wire.proofs.Rows.{rows-stop, rows-pass}
 use Rattle.protocol.proofs.Writes.{write-stops, write-done}
 use Rattle.types.specs.Types.{lengthOk}
 use Rattle.record.specs.Record.{allZero, encodeRows, recordBytes, encodeRecord}
 use Rattle.parser.specs.Push.{bufferedOf, counted}
 use Rattle.parser.specs.declared.parser.Count.{Count}
 use Rattle.session.specs.Checks.{lastSequence, nextRow}
+use Rattle.session_checks.proofs.Stopping.{beginRows}
 use Rattle.next_record.specs.Writes.{identityBytes, nextRows, encodeData}
 use Rattle.next_record.specs.Writes as writing
 use Rattle.next_record.specs.declared.Encoded.{Encoded}
@@ -51,26 +52,10 @@ module _ (v : Refusal) (h after : HostSession) (count : ℕ) (bytes o : List ℕ
 abbrev startRows : HostSession → ℕ → List (Bool × Refusal)
 startRows h k = soundRow h ∷ (eqb (code (h .state)) k, refusal 20 0 0 0) ∷ []
 
-abbrev beginRows : Bool → ℕ → ℕ → List (Bool × Refusal)
-beginRows b k state = (b, refusal 23 0 0 0) ∷ (eqb k state, refusal 20 0 0 0) ∷ []
-
-module _ (b : Bool) (k state : ℕ) (x : Refusal) where
-  pub stopped-23 : not b ≡ true → x ≡ refusal 23 0 0 0 → x ≡ first (beginRows b k state)
-  stopped-23 n ex = row-stops _ _ x _ (not-true b n) ex
-
-  module _ (n : not b ≡ false) where
-    pub stopped-20 : (k ≡ state → ⊥) → x ≡ refusal 20 0 0 0 → x ≡ first (beginRows b k state)
-    stopped-20 h ex = row-passes _ _ x _ (not-false b n) (row-stops _ _ x _ (ne-eqb k state h) ex)
-
-    pub stopped-none : k ≡ state → x ≡ none → x ≡ first (beginRows b k state)
-    stopped-none h ex = row-passes _ _ x _ (not-false b n) (row-passes _ _ x _ (eq-eqb k state h) (no-rows x ex))
-
 -- what is told of the session is what its rows test
 pub told-of : (h : HostSession) (state : ℕ) (b : Bool) (k : ℕ) (x : Refusal) → b ≡ soundHost h → k ≡ code (h .state) → x ≡ first (beginRows b k state)
     → x ≡ first (startRows h state)
 told-of h state b k x eb ek ex = ex ∙ (ap (λ (c : Bool). first (beginRows c k state)) eb ∙ ap (λ (m : ℕ). first (beginRows (soundHost h) m state)) ek)
-
-pub ruleset stopping = (stopped-23, stopped-20, stopped-none)
 
 -- ---- attach
 -- the encoder's rows for HOST_ATTACH with 32 bytes: only the room is left

@@ -5,15 +5,13 @@ use host::host::HostSession;
 use host::host::HostState;
 use next_record::encode_data;
 use protocol::outer::Written;
+use session_checks::stopped;
 use types::RecordType;
 use wire::Epoch;
 use wire::Sequence;
 use wire::refusal::Refusal;
 ghost use mathlib.Core.Path.{_≡_};
-ghost use mathlib.Core.List.{[], _∷_};
-ghost use lib.Dec.{eqb};
 ghost use lib.ListN.{replicate};
-ghost use Rattle.wire.specs.Refusals.{refusal, first};
 ghost use Rattle.protocol.specs.Outer as outer;
 ghost use Rattle.record.specs.Record.{encodeRecord};
 ghost use Rattle.host.specs.State.{withSent};
@@ -33,20 +31,6 @@ pub struct Sent {
 pub struct Closed {
     pub refusal: Refusal,
     pub session: HostSession,
-}
-
-// What stops a call that works in one state: 23 unsound, 20 another state. It is given what the
-// session answers and not the session, which would be copied once more.
-fn stopped(sound: bool, held: u8, state: u8) -> Refusal
-    ensures { λ r. ⌜ r ≡ first ((sound, refusal 23 0 0 0) ∷ (eqb held state, refusal 20 0 0 0) ∷ []) ⌝ }
-{
-    if !sound {
-        return Refusal::new(23, 0, 0, 0);
-    }
-    if held != state {
-        return Refusal::new(20, 0, 0, 0);
-    }
-    Refusal::none()
 }
 
 // Nothing is sent.

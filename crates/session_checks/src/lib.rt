@@ -1,12 +1,28 @@
-// The checks on a record's sequence and identity that both ends share (nvxs/mod.rs).
+// The checks that both ends share (nvxs/mod.rs): on the state that a call needs, and on a record's
+// sequence and identity.
 use session::session::Identity;
 use session::session::same_instance;
 use wire::Sequence;
 use wire::refusal::Refusal;
 ghost use mathlib.Core.Path.{_≡_};
 ghost use mathlib.Core.List.{[], _∷_};
-ghost use Rattle.wire.specs.Refusals.{first};
+ghost use lib.Dec.{eqb};
+ghost use Rattle.wire.specs.Refusals.{first, refusal};
 ghost use Rattle.session.specs.Checks.{sequenceRow, otherInstance, instanceRow, epochRow};
+
+// What stops a call that works in one state: 23 unsound, 20 another state. It is given what the
+// session answers and not the session, which would be copied once more.
+pub fn stopped(sound: bool, held: u8, state: u8) -> Refusal
+    ensures { λ r. ⌜ r ≡ first ((sound, refusal 23 0 0 0) ∷ (eqb held state, refusal 20 0 0 0) ∷ []) ⌝ }
+{
+    if !sound {
+        return Refusal::new(23, 0, 0, 0);
+    }
+    if held != state {
+        return Refusal::new(20, 0, 0, 0);
+    }
+    Refusal::none()
+}
 
 // Checks a record's sequence.
 pub fn check_sequence(actual: Sequence, expected: Sequence) -> Refusal

@@ -1,8 +1,8 @@
--- `guest_writes::stopped` meets its contract. Each way it returns is a case of its rule: `stopping` of proofs/Writing. Assumes nothing.
-use Rattle.guest_writes.proofs.Writing.{stopping}
+-- `session_checks::stopped` meets its contract. Each way it returns is a case of its rule: `stopping` of proofs/Stopping. Assumes nothing.
+use Rattle.session_checks.proofs.Stopping.{stopping}
 use borrow.Author.Needs.{needs}
-use Rattle.guest_writes.proofs.stopped.Statement.{statement}
-use Rattle.guest_writes.proofs.stopped.Tie as tie
+use Rattle.session_checks.proofs.stopped.Statement.{statement}
+use Rattle.session_checks.proofs.stopped.Tie as tie
 
 new-requires : tie.Need-new-requires
 new-requires c κs = search needs
