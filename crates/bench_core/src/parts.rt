@@ -1,6 +1,4 @@
 // Parts of a stream, and sums over what was handed out.
-ghost use mathlib.Core.Path.{_≡_};
-ghost use Prim.Native.Nat.{_≤_};
 
 // Sums over numbers: plain, and of the plain ones, so that the order counts.
 pub struct Sums {

@@ -6,10 +6,10 @@ use crate::parts::cut;
 use crate::parts::no_sums;
 use crate::parts::piece_end;
 use crate::start::active_guest;
-use guest::guest::GuestSession;
+use guest::GuestSession;
 use guest_accept::GuestEvent;
 use guest_accept::payload;
-use parser::parser::Place;
+use parser::Place;
 ghost use mathlib.Core.Path.{_≡_};
 ghost use lib.ListN.{length};
 

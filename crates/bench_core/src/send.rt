@@ -3,7 +3,7 @@ use crate::parts::after;
 use crate::parts::cut;
 use crate::parts::piece_end;
 use crate::start::active_guest;
-use guest::guest::GuestSession;
+use guest::GuestSession;
 ghost use mathlib.Core.Path.{_≡_};
 ghost use lib.ListN.{length};
 

@@ -1,9 +1,9 @@
 // A guest at the point where DATA flows.
-use guest::guest::GuestSession;
-use guest::guest::GuestState;
-use parser::parser::RecordParser;
-use session::session::Identity;
-use session::session::OptionalIdentity;
+use guest::GuestSession;
+use guest::GuestState;
+use parser::RecordParser;
+use session::Identity;
+use session::OptionalIdentity;
 use wire::Epoch;
 use wire::Sequence;
 

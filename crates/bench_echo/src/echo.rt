@@ -7,10 +7,10 @@ use bench_core::parts::cut;
 use bench_core::parts::no_sums;
 use bench_core::start::active_guest;
 use codec::encode_record;
-use guest::guest::GuestSession;
-use host::host::HostSession;
-use parser::parser::RecordParser;
-use record::record::Record;
+use guest::GuestSession;
+use host::HostSession;
+use parser::RecordParser;
+use record::Record;
 use types::RecordType;
 use wire::Sequence;
 ghost use mathlib.Core.Path.{_≡_};
@@ -102,7 +102,7 @@ fn relay_data(
     let record = data.record;
     let place = data.place;
     let parser = data.parser;
-    let bytes = parser::parser::payload(reply, stage, place, record.length);
+    let bytes = parser::payload(reply, stage, place, record.length);
     RelayTurn {
         parser,
         consumed: data.consumed,

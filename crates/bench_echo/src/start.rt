@@ -2,7 +2,7 @@
 use bench_core::start::EPOCH;
 use bench_core::start::INSTANCE;
 use codec::encode_record;
-use host::host::HostSession;
+use host::HostSession;
 use types::RecordType;
 use wire::Epoch;
 use wire::Sequence;

@@ -11,11 +11,11 @@ use lib.Dec.{ltb}
 use borrow.Author.Tests.{lt-ltb, le-ltb, eq-eqb, ne-eqb}
 use Rattle.wire.specs.Refusals.{pick, none, passes}
 use Rattle.wire.specs.Header.{lengthOf}
-use Rattle.wire.specs.declared.refusal.Refusal.{Refusal}
+use Rattle.wire.specs.declared.Refusal.{Refusal}
 use Rattle.record.specs.Record.{recordOf}
-use Rattle.record.specs.declared.record.Record.{Record}
+use Rattle.record.specs.declared.Record.{Record}
 use Rattle.parser.specs.Push.{Push, parserOf, push, headWith, pushStage, pushOf, heldIn, neededOf, bufferedOf}
-use Rattle.parser.specs.declared.parser.RecordParser.{RecordParser}
+use Rattle.parser.specs.declared.RecordParser.{RecordParser}
 use Rattle.claims.specs.Reading.{heldBytes, Ready, joined, payloadOf, Run, ran, following, drain, drained, Seen, seen, CuttingNeverMatters}
 use Rattle.claims.proofs.Scans.{Scan, unfinished, whole, refused, scan}
 use Rattle.claims.proofs.Outcomes.{Part, inHead, inBody, part-low, ready-part, ready-scan, Matches}

@@ -10,11 +10,11 @@ use lib.Dec.{eqb}
 use borrow.Author.Tests.{eq-eqb}
 use Rattle.wire.specs.Refusals.{pick, passes}
 use Rattle.wire.specs.Header.{headerBytes}
-use Rattle.wire.specs.declared.refusal.Refusal.{Refusal}
+use Rattle.wire.specs.declared.Refusal.{Refusal}
 use Rattle.types.specs.Types.{codeOf}
 use Rattle.record.specs.Record.{recordOf}
 use Rattle.parser.specs.Push.{Push, push, headWith, pushStage, pushOf, heldIn, fresh}
-use Rattle.parser.specs.declared.parser.RecordParser.{RecordParser}
+use Rattle.parser.specs.declared.RecordParser.{RecordParser}
 use Rattle.claims.specs.Reading.{heldBytes, Ready, Staged, joined, payloadOf, Fed, delivered, broken, feed, FreshReady, ReadingUndoesEncoding}
 use Rattle.claims.proofs.Octets.{octets-zeros}
 use Rattle.claims.proofs.Scans.{Scan, unfinished, whole, refused, scan, scan-append}

@@ -11,11 +11,11 @@ use borrow.Author.Tests.{leb-true, eqb-true, ne-eqb}
 use Rattle.wire.specs.Bytes.{Octets}
 use Rattle.wire.specs.Refusals.{refusal, none, first, passes}
 use Rattle.protocol.specs.Outer.{maxPayload, windowOk}
-use Rattle.wire.specs.declared.refusal.Refusal.{Refusal}
+use Rattle.wire.specs.declared.Refusal.{Refusal}
 use Rattle.wire.proofs.Rows.{Passed, Numbered, passed, picked, and-left, and-right}
 use Rattle.types.specs.Types.{codeOf}
 use Rattle.parser.specs.Push.{Push, push, pushStage, headWith, heldIn, bufferedOf}
-use Rattle.parser.specs.declared.parser.Place.the-variants.{Piece}
+use Rattle.parser.specs.declared.Place.the-variants.{Piece}
 use Rattle.session.specs.Checks.{noIdentity, identityOf}
 use Rattle.guest.specs.State.{isDetached, isResetting, isActive, isOpen, isEnded, soundGuest, withState, resetGuest, dataGuest, ackGuest, sentGuest}
 use Rattle.guest_checks.specs.Checks.{resetRows, dataRows}
@@ -24,9 +24,9 @@ use Rattle.guest_writes.specs.Writes as W
 use Rattle.guest_calls.specs.Calls as C
 use Rattle.guest_send.specs.Send as S
 use Rattle.guest_asks.specs.Asks as A
-use Rattle.guest.specs.declared.guest.GuestState.the-variants as State
+use Rattle.guest.specs.declared.GuestState.the-variants as State
 use Rattle.guest_accept.specs.declared.GuestEvent.the-variants as Event
-use Rattle.guest.specs.declared.guest.GuestSession.{GuestSession}
+use Rattle.guest.specs.declared.GuestSession.{GuestSession}
 use Rattle.guest_accept.specs.declared.Received.{Received}
 use Rattle.guest_calls.specs.declared.Closed.{Closed}
 use Rattle.guest_asks.specs.declared.WindowAnswer.{WindowAnswer}

@@ -13,7 +13,7 @@ use Rattle.protocol.specs.Outer.{windowOk, creditOk, valueOf}
 use Rattle.types.specs.Types.{typeAt, lengthOk}
 use Rattle.record.specs.Record.{allZero, payloadChecks, headerChecks, recordWith, recordBytes}
 use Rattle.parser.specs.Push.{countsOk, errorOk, soundParser, finish, pushBody, headWith, pushHead, push}
-use Rattle.parser.specs.declared.parser.Place.the-variants.{Piece}
+use Rattle.parser.specs.declared.Place.the-variants.{Piece}
 use Rattle.session.specs.Checks.{same, identity, noIdentity, identityOk, holds}
 use Rattle.guest.specs.State.{freshGuest, soundGuest}
 use Rattle.guest_accept.specs.Receive as R
@@ -21,7 +21,7 @@ use Rattle.guest_writes.specs.Writes as W
 use Rattle.guest_calls.specs.Calls as C
 use Rattle.guest_send.specs.Send as S
 use Rattle.guest_asks.specs.Asks as A
-use Rattle.guest.specs.declared.guest.GuestState.the-variants as State
+use Rattle.guest.specs.declared.GuestState.the-variants as State
 use Rattle.guest_accept.specs.declared.GuestEvent.{GuestEvent}
 use Rattle.guest_accept.specs.declared.GuestEvent.the-variants as Event
 use Rattle.claims.specs.GuestCalls.{own, other, attach, acknowledge, credit, askState, askOutstanding, Call, receive, write, ask, state, outstanding, Answer, received, sent, told, eventOf, Endpoint, step, fresh}

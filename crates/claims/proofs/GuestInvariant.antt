@@ -1,7 +1,7 @@
 -- What every session of a list of calls satisfies (`Invariant`): it is sound, its parser's header is 44 bytes, and no error is latched
 -- unless it has Failed. So it can receive whatever stage of 65,536 bytes or more is lent. Assumes nothing.
 use Prim.Native.Nat.{ℕ, _≤_}
-use mathlib.Core.Path.{_≡_, refl, sym, _∙_}
+use mathlib.Core.Path.{_≡_, refl}
 use mathlib.Core.Bool.{Bool, true, false, not, _||_}
 use mathlib.Core.List.{List}
 use native.Mathlib.Omega.{arith}
@@ -13,11 +13,11 @@ use Rattle.wire.specs.Refusals.{passes}
 use Rattle.protocol.specs.Outer.{maxPayload}
 use Rattle.wire.proofs.Rows.{and-left, and-right}
 use Rattle.parser.specs.Push.{countsOk, errorOk, soundParser, heldIn}
-use Rattle.parser.specs.declared.parser.RecordParser.{RecordParser}
+use Rattle.parser.specs.declared.RecordParser.{RecordParser}
 use Rattle.session.specs.Checks.{holds}
 use Rattle.guest.specs.State.{code, isDetached, isResetting, isActive, isFailed, isOpen, isLive, isEnded, soundGuest}
-use Rattle.guest.specs.declared.guest.GuestState.{GuestState}
-use Rattle.guest.specs.declared.guest.GuestSession.{GuestSession}
+use Rattle.guest.specs.declared.GuestState.{GuestState}
+use Rattle.guest.specs.declared.GuestSession.{GuestSession}
 use Rattle.claims.specs.Reading.{Ready}
 use Rattle.claims.proofs.Records.{length-low}
 use Rattle.claims.proofs.Outcomes.{Part, inHead, inBody, part-of}

@@ -9,7 +9,7 @@ use Rattle.record.specs.Record.{recordOf}
 use Rattle.parser.specs.Push.{parserOf, heldIn}
 use Rattle.guest.specs.State.{isFailed, resetGuest}
 use Rattle.guest_accept.specs.declared.GuestEvent.the-variants as Event
-use Rattle.guest.specs.declared.guest.GuestSession.{GuestSession}
+use Rattle.guest.specs.declared.GuestSession.{GuestSession}
 use Rattle.claims.specs.GuestCalls.{own, other, Call, Answer, eventOf, Endpoint, Step, step, fresh}
 use Rattle.claims.specs.GuestHistory.{after, trace, history, OwnOrShorter, AllOwnOrShorter, Transcript, noTranscript, transcribe}
 use Rattle.claims.specs.GuestClaims.{ResetRun, reached, resetBytes, answers, GuestsAgree}

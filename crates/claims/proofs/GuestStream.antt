@@ -12,7 +12,7 @@ use Rattle.wire.specs.Bytes.{fromLe, Octets}
 use Rattle.wire.specs.Header.{sequenceOf}
 use Rattle.protocol.specs.Outer.{maxPayload}
 use Rattle.parser.specs.Push.{heldIn, bufferedOf}
-use Rattle.parser.specs.declared.parser.RecordParser.{RecordParser}
+use Rattle.parser.specs.declared.RecordParser.{RecordParser}
 use Rattle.session.specs.Checks.{identityOf}
 use Rattle.guest.specs.State.{isFailed}
 use Rattle.claims.specs.Reading.{heldBytes, Ready}

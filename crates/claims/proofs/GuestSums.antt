@@ -8,13 +8,13 @@ use native.Mathlib.Omega.{arith}
 use lib.ListN.{length}
 use borrow.Author.Tests.{leb-true}
 use Rattle.wire.specs.Refusals.{pick, refusal, none, passes}
-use Rattle.wire.specs.declared.refusal.Refusal.{Refusal}
+use Rattle.wire.specs.declared.Refusal.{Refusal}
 use Rattle.record.specs.Record.{recordWith}
-use Rattle.record.specs.declared.record.Record.{Record}
+use Rattle.record.specs.declared.Record.{Record}
 use Rattle.parser.specs.Push.{Push, pushStage, payloadAt}
 use Rattle.guest.specs.State.{soundGuest}
 use Rattle.guest_asks.specs.Asks.{outstandingOf}
-use Rattle.guest.specs.declared.guest.GuestSession.{GuestSession}
+use Rattle.guest.specs.declared.GuestSession.{GuestSession}
 use Rattle.claims.specs.GuestCalls.{Writing, Call, write, sent, Endpoint, Step, step, fresh}
 use Rattle.claims.specs.GuestHistory.{after, trace, history, Tally, noTally, count, countSent}
 use Rattle.claims.specs.GuestClaims.{Sums, SumsHold}

@@ -9,18 +9,18 @@ use native.Mathlib.Omega.{arith}
 use lib.ListN.{length}
 use lib.Dec.{leb}
 use Rattle.wire.specs.Refusals.{first, passes}
-use Rattle.wire.specs.declared.refusal.Refusal.{Refusal}
+use Rattle.wire.specs.declared.Refusal.{Refusal}
 use Rattle.wire.proofs.Rows.{picked, passed, and-right}
 use Rattle.types.specs.declared.RecordType.{RecordType}
 use Rattle.types.specs.declared.RecordType.the-variants as Kind
 use Rattle.parser.specs.Push.{Push, push, pushStage, heldIn, headWith, payloadAt}
 use Rattle.wire.specs.declared.Sequence.{Sequence}
-use Rattle.session.specs.declared.session.OptionalIdentity.{OptionalIdentity}
+use Rattle.session.specs.declared.OptionalIdentity.{OptionalIdentity}
 use Rattle.host.specs.State.{code, isOpen, isBegun}
 use Rattle.host_checks.specs.Checks.{recordRows}
 use Rattle.host_receive.specs.Receive.{Receive, effect, accept, afterPush, receiveRows, receive, receiveStage}
-use Rattle.host.specs.declared.host.HostState.{HostState}
-use Rattle.host.specs.declared.host.HostSession.{HostSession}
+use Rattle.host.specs.declared.HostState.{HostState}
+use Rattle.host.specs.declared.HostSession.{HostSession}
 use Rattle.claims.specs.Reading.{heldBytes, Ready, Staged}
 use Rattle.claims.proofs.Scans.{Scan, unfinished, whole, refused, scan}
 use Rattle.claims.proofs.Outcomes.{picked₂, true-not-false, Matches}

@@ -9,16 +9,16 @@ use lib.ListN.{length, take, drop}
 use lib.Dec.{eqb, leb}
 use borrow.Author.Tests.{leb-true, le-leb, eqb-true}
 use Rattle.wire.specs.Refusals.{pick, refusal, first, passes}
-use Rattle.wire.specs.declared.refusal.Refusal.{Refusal}
+use Rattle.wire.specs.declared.Refusal.{Refusal}
 use Rattle.wire.proofs.Rows.{picked, passed}
 use Rattle.parser.specs.Push.{soundParser, countsOk, errorOk, heldIn, bufferedOf}
 use Rattle.session.specs.Checks.{nextRow}
 use Rattle.host.specs.State.{code, isDetached, isAttached, isBegun, soundHost, withState, sentHost}
 use Rattle.host_receive.specs.Receive as Receive
 use Rattle.host_calls.specs.Calls as Calls
-use Rattle.host.specs.declared.host.HostState.{HostState}
-use Rattle.host.specs.declared.host.HostState.the-variants as State
-use Rattle.host.specs.declared.host.HostSession.{HostSession}
+use Rattle.host.specs.declared.HostState.{HostState}
+use Rattle.host.specs.declared.HostState.the-variants as State
+use Rattle.host.specs.declared.HostSession.{HostSession}
 use Rattle.host_calls.specs.declared.Closed.{Closed}
 use Rattle.claims.specs.Reading.{Ready}
 use Rattle.claims.specs.HostCalls.{HostCall, wrote, got, HostReply, HostStep, placed, sending, receiving, step, next, freshPlace, compared, seen, replies}

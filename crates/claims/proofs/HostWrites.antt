@@ -11,12 +11,12 @@ use lib.Seq.{take-at, drop-at}
 use Rattle.wire.specs.Bytes.{toLe, overlay}
 use Rattle.wire.specs.Refusals.{pick, none, passes}
 use Rattle.wire.specs.Header.{headerBytes}
-use Rattle.wire.specs.declared.refusal.Refusal.{Refusal}
+use Rattle.wire.specs.declared.Refusal.{Refusal}
 use Rattle.wire.proofs.Rows.{picked}
 use Rattle.wire.proofs.Headers.{header-length}
 use Rattle.record.specs.Record.{recordBytes}
 use Rattle.host_calls.specs.Calls.{Outcome, writes}
-use Rattle.host.specs.declared.host.HostSession.{HostSession}
+use Rattle.host.specs.declared.HostSession.{HostSession}
 use Rattle.claims.proofs.Outcomes.{picked₂}
 use Rattle.claims.proofs.HostDoes.{Lands}
 

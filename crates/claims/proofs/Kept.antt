@@ -7,7 +7,7 @@ use mathlib.Core.List.{List, _++_, append-assoc}
 use Rattle.wire.specs.Bytes.{Octets}
 use Rattle.wire.specs.Refusals.{passes}
 use Rattle.record.specs.Record.{recordOf}
-use Rattle.record.specs.declared.record.Record.{Record}
+use Rattle.record.specs.declared.Record.{Record}
 use Rattle.claims.specs.Reading.{encoded, encodings, Run, Accounts, NothingLost}
 use Rattle.claims.proofs.Octets.{octets-append, octets-front, octets-back}
 use Rattle.claims.proofs.Records.{encoded-back}

@@ -9,11 +9,11 @@ use lib.Dec.{leb, eqb}
 use borrow.Author.Tests.{leb-true, le-leb, eqb-true, ne-eqb}
 use Rattle.wire.specs.Refusals.{pick, refusal, none, first, passes}
 use Rattle.wire.specs.Header.{lengthOf}
-use Rattle.wire.specs.declared.refusal.Refusal.{Refusal}
+use Rattle.wire.specs.declared.Refusal.{Refusal}
 use Rattle.wire.proofs.Rows.{and-left, and-right}
 use Rattle.parser.specs.Push.{countsOk, errorOk, soundParser, Push, stopped, headWith, pushHead, pushRows, push, neededOf}
-use Rattle.parser.specs.declared.parser.RecordParser.{RecordParser}
-use Rattle.parser.specs.declared.parser.Pushed.{Pushed}
+use Rattle.parser.specs.declared.RecordParser.{RecordParser}
+use Rattle.parser.specs.declared.Pushed.{Pushed}
 use Rattle.claims.specs.Reading.{heldBytes, Ready, Again, PushKeepsSound}
 use Rattle.claims.proofs.Scans.{Scan, unfinished, whole, refused, scan}
 use Rattle.claims.proofs.Outcomes.{true-not-false, Part, inHead, inBody, part-of, Matches}

@@ -11,11 +11,11 @@ use lib.Dec.{ltb, eqb}
 use borrow.Author.Tests.{ltb-true, eqb-true, lt-ltb, eq-eqb, ne-eqb}
 use Rattle.wire.specs.Refusals.{pick, none, passes}
 use Rattle.wire.specs.Header.{typeOf, lengthOf}
-use Rattle.wire.specs.declared.refusal.Refusal.{Refusal}
+use Rattle.wire.specs.declared.Refusal.{Refusal}
 use Rattle.wire.proofs.Rows.{picked, and-left, and-right}
 use Rattle.record.specs.Record.{headerChecks, payloadChecks, recordOf}
 use Rattle.parser.specs.Push.{parserOf, countsOk, errorOk, soundParser, Push}
-use Rattle.parser.specs.declared.parser.RecordParser.{RecordParser}
+use Rattle.parser.specs.declared.RecordParser.{RecordParser}
 use Rattle.claims.specs.Reading.{heldBytes, Ready}
 use Rattle.claims.proofs.Scans.{Scan, unfinished, whole, refused, scan, scanValue, scanBody, scanHeader, scan-short, scan-cut}
 

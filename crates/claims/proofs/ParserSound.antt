@@ -10,12 +10,12 @@ use lib.Dec.{ltb, eqb, lit≤}
 use borrow.Author.Tests.{ltb-true, le-leb, lt-ltb, ne-eqb}
 use Rattle.wire.specs.Refusals.{none, first, passes}
 use Rattle.wire.specs.Header.{typeOf, lengthOf}
-use Rattle.wire.specs.declared.refusal.Refusal.{Refusal}
+use Rattle.wire.specs.declared.Refusal.{Refusal}
 use Rattle.wire.proofs.Rows.{picked}
 use Rattle.record.specs.Record.{headerChecks, headerRows, payloadChecks, payloadRows}
 use Rattle.parser.specs.Push.{parserOf, countsOk, errorOk, soundParser, Push, finish, bodyTaken, pushBody, headTaken, headWith, pushHead, pushRows, push}
-use Rattle.parser.specs.declared.parser.RecordParser.{RecordParser}
-use Rattle.parser.specs.declared.parser.Place.{Place}
+use Rattle.parser.specs.declared.RecordParser.{RecordParser}
+use Rattle.parser.specs.declared.Place.{Place}
 
 -- every row refuses with a number up to 9
 abbrev Low : List (Bool × Refusal) → Type 0

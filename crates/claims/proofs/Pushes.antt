@@ -17,9 +17,9 @@ use Rattle.wire.proofs.Rows.{pass-all}
 use Rattle.wire.proofs.Overlays.{length-overlay, take-overlay}
 use Rattle.record.specs.Record.{headerChecks, payloadChecks}
 use Rattle.parser.specs.Push.{stopped, waiting, failed, finish, bodyTaken, pushBody, headTaken, headWith, pushHead, pushRows, push}
-use Rattle.parser.specs.declared.parser.RecordParser.{RecordParser}
-use Rattle.parser.specs.declared.parser.Place.{Place}
-use Rattle.parser.specs.declared.parser.Place.the-variants.{Piece, Stage}
+use Rattle.parser.specs.declared.RecordParser.{RecordParser}
+use Rattle.parser.specs.declared.Place.{Place}
+use Rattle.parser.specs.declared.Place.the-variants.{Piece, Stage}
 use Rattle.claims.specs.Reading.{heldBytes, Ready}
 use Rattle.claims.proofs.Scans.{scan, scanValue, scanBody, scanHeader, scan-short, scan-cut}
 use Rattle.claims.proofs.Records.{header-low, payload-low}

@@ -9,9 +9,9 @@ use lib.ListN.{length, drop}
 use lib.Seq.{drop-at}
 use Rattle.wire.specs.Refusals.{passes}
 use Rattle.wire.specs.Header.{lengthOf}
-use Rattle.wire.specs.declared.refusal.Refusal.{Refusal}
+use Rattle.wire.specs.declared.Refusal.{Refusal}
 use Rattle.record.specs.Record.{headerChecks, recordOf}
-use Rattle.record.specs.declared.record.Record.{Record}
+use Rattle.record.specs.declared.Record.{Record}
 use Rattle.claims.proofs.Scans.{Scan, unfinished, whole, refused, scan, scan-append}
 
 -- how it ends: with bytes of an unfinished record, or refused

@@ -15,9 +15,9 @@ use Rattle.wire.specs.Refusals.{refusal, none, first, passes}
 use Rattle.wire.specs.Header.{magic, magicOf, versionOf, typeOf, flagsOf, instanceOf, epochOf, sequenceOf, lengthOf, headerBytes}
 use Rattle.protocol.specs.Outer.{headerOf, outerOk, decodeOuterHeader}
 use Rattle.protocol.specs.Outer as Outer
-use Rattle.wire.specs.declared.refusal.Refusal.{Refusal}
-use Rattle.protocol.specs.declared.outer.OuterHeader.{OuterHeader}
-use Rattle.protocol.specs.declared.outer.DecodedHeader.{DecodedHeader}
+use Rattle.wire.specs.declared.Refusal.{Refusal}
+use Rattle.protocol.specs.declared.OuterHeader.{OuterHeader}
+use Rattle.protocol.specs.declared.DecodedHeader.{DecodedHeader}
 use Rattle.wire.proofs.Rows.{Passed, passed, pass-all, picked, and-left, and-right}
 use Rattle.wire.proofs.Headers.{header-length, header-back}
 use Rattle.protocol.proofs.RoundTrips.{fieldsOf, header-decodes}

@@ -16,9 +16,9 @@ use Rattle.wire.proofs.Rows.{picked}
 use Rattle.wire.proofs.Overlays.{length-overlay, take-overlay}
 use Rattle.record.specs.Record.{headerChecks, payloadChecks, recordWith}
 use Rattle.parser.specs.Push.{Push, stopped, finish, bodyTaken, pushBody, headTaken, headWith, pushHead, pushRows, push, bodyStage, headStage, pushStage, heldIn, payloadAt}
-use Rattle.parser.specs.declared.parser.RecordParser.{RecordParser}
-use Rattle.parser.specs.declared.parser.Place.{Place}
-use Rattle.parser.specs.declared.parser.Place.the-variants.{Piece, Stage}
+use Rattle.parser.specs.declared.RecordParser.{RecordParser}
+use Rattle.parser.specs.declared.Place.{Place}
+use Rattle.parser.specs.declared.Place.the-variants.{Piece, Stage}
 use Rattle.claims.specs.Reading.{Ready, Staged}
 use Rattle.claims.proofs.Records.{length-low}
 use Rattle.claims.proofs.Outcomes.{picked₂, ready-part}

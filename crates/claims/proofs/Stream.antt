@@ -12,13 +12,13 @@ use Rattle.wire.specs.Bytes.{overlay, Octets}
 use Rattle.wire.specs.Refusals.{pick, refusal, none, first, passes}
 use Rattle.wire.specs.Header.{typeOf, lengthOf}
 use Rattle.protocol.specs.Outer.{outcome, write}
-use Rattle.wire.specs.declared.refusal.Refusal.{Refusal}
+use Rattle.wire.specs.declared.Refusal.{Refusal}
 use Rattle.wire.proofs.Rows.{passed, pass-all}
 use Rattle.types.specs.Types.{codeOf}
 use Rattle.record.specs.Record.{headerChecks, payloadChecks, recordOf, recordWith, recordRows, encodeRows, encodeRecord}
-use Rattle.record.specs.declared.record.Record.{Record}
+use Rattle.record.specs.declared.Record.{Record}
 use Rattle.parser.specs.Push.{parserOf, countsOk, errorOk, soundParser, Push, headTaken, headWith, push}
-use Rattle.parser.specs.declared.parser.RecordParser.{RecordParser}
+use Rattle.parser.specs.declared.RecordParser.{RecordParser}
 use Rattle.claims.specs.Reading.{heldBytes, Ready, encoded, Streams, Refuses, Encodes, NotSooner, EncodingUndoesReading}
 use Rattle.claims.proofs.Octets.{octets-overlay}
 use Rattle.claims.proofs.Scans.{Scan, unfinished, whole, refused, scan, scan-short}

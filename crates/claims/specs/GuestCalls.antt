@@ -4,11 +4,11 @@ use Prim.Native.Nat.{ℕ, _-_}
 use mathlib.Core.List.{List, []}
 use lib.ListN.{length, take, drop}
 use Rattle.wire.specs.Bytes.{Octets}
-use Rattle.wire.specs.declared.refusal.Refusal.{Refusal}
+use Rattle.wire.specs.declared.Refusal.{Refusal}
 use Rattle.parser.specs.Push.{payloadAt}
-use Rattle.parser.specs.declared.parser.Place.{Place}
-use Rattle.parser.specs.declared.parser.Count.{Count}
-use Rattle.session.specs.declared.session.Identity.{Identity}
+use Rattle.parser.specs.declared.Place.{Place}
+use Rattle.parser.specs.declared.Count.{Count}
+use Rattle.session.specs.declared.Identity.{Identity}
 use Rattle.guest.specs.State.{freshGuest}
 use Rattle.guest_accept.specs.Receive as Receive
 use Rattle.guest_writes.specs.Writes as Writes
@@ -17,7 +17,7 @@ use Rattle.guest_send.specs.Send as Sends
 use Rattle.guest_asks.specs.Asks as Asks
 use Rattle.guest_accept.specs.declared.GuestEvent.{GuestEvent}
 use Rattle.guest_accept.specs.declared.GuestEvent.the-variants as Event
-use Rattle.guest.specs.declared.guest.GuestSession.{GuestSession}
+use Rattle.guest.specs.declared.GuestSession.{GuestSession}
 use Rattle.guest_accept.specs.declared.Received.{Received}
 use Rattle.guest_calls.specs.declared.Closed.{Closed}
 use Rattle.guest_asks.specs.declared.StateAnswer.{StateAnswer}

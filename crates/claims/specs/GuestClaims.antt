@@ -14,7 +14,7 @@ use Rattle.parser.specs.Push.{bufferedOf}
 use Rattle.guest.specs.State.{isFailed, soundGuest}
 use Rattle.guest_asks.specs.Asks.{outstandingOf}
 use Rattle.guest_accept.specs.declared.GuestEvent.the-variants as Event
-use Rattle.guest.specs.declared.guest.GuestSession.{GuestSession}
+use Rattle.guest.specs.declared.GuestSession.{GuestSession}
 use Rattle.guest_asks.specs.declared.OutstandingAnswer.{OutstandingAnswer}
 use Rattle.claims.specs.GuestCalls.{own, other, Writing, Ask, Call, receive, write, disconnect, ask, Answer, refusalOf, eventOf, Endpoint, step, fresh}
 use Rattle.claims.specs.GuestHistory.{after, Seen, trace, history, AllOwnOrShorter, Tally, noTally, count, Transcript, noTranscript, transcribe, handedBytes}

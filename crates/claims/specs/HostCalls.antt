@@ -6,17 +6,17 @@ use mathlib.Core.Bool.{true}
 use mathlib.Core.List.{List, [], _∷_, _++_}
 use lib.ListN.{length, take, drop}
 use Rattle.wire.specs.Refusals.{refusal}
-use Rattle.wire.specs.declared.refusal.Refusal.{Refusal}
+use Rattle.wire.specs.declared.Refusal.{Refusal}
 use Rattle.parser.specs.Push.{payloadAt}
-use Rattle.parser.specs.declared.parser.Place.{Place}
-use Rattle.parser.specs.declared.parser.Count.{Count}
-use Rattle.session.specs.declared.session.Identity.{Identity}
+use Rattle.parser.specs.declared.Place.{Place}
+use Rattle.parser.specs.declared.Count.{Count}
+use Rattle.session.specs.declared.Identity.{Identity}
 use Rattle.host.specs.State.{freshHost, soundHost}
 use Rattle.host_receive.specs.Receive as Receive
 use Rattle.host_asks.specs.Asks as Asks
 use Rattle.host_calls.specs.Calls as Calls
 use Rattle.host_receive.specs.declared.HostEvent.{HostEvent}
-use Rattle.host.specs.declared.host.HostSession.{HostSession}
+use Rattle.host.specs.declared.HostSession.{HostSession}
 use Rattle.host_asks.specs.declared.StateAnswer.{StateAnswer}
 use Rattle.host_asks.specs.declared.IdentityAnswer.{IdentityAnswer}
 

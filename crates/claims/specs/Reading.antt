@@ -10,14 +10,14 @@ use Rattle.wire.specs.Bytes.{overlay, Octets}
 use Rattle.wire.specs.Refusals.{pick, none, first, passes}
 use Rattle.protocol.specs.Outer as Outer
 use Rattle.protocol.specs.Outer.{maxPayload}
-use Rattle.wire.specs.declared.refusal.Refusal.{Refusal}
+use Rattle.wire.specs.declared.Refusal.{Refusal}
 use Rattle.types.specs.Types.{codeOf}
 use Rattle.record.specs.Record.{recordRows, recordBytes, encodeRecord}
 use Rattle.types.specs.declared.RecordType.{RecordType}
-use Rattle.record.specs.declared.record.Record.{Record}
+use Rattle.record.specs.declared.Record.{Record}
 use Rattle.parser.specs.Push.{soundParser, Push, stopped, push, pushStage, Outcome, pushOf, fresh, heldIn, payloadAt, neededOf, bufferedOf}
-use Rattle.parser.specs.declared.parser.RecordParser.{RecordParser}
-use Rattle.parser.specs.declared.parser.Pushed.{Pushed}
+use Rattle.parser.specs.declared.RecordParser.{RecordParser}
+use Rattle.parser.specs.declared.Pushed.{Pushed}
 
 -- ---- parsers and records
 -- the bytes that a parser holds: of the header, and `held`, of the payload

@@ -3,22 +3,19 @@ use checks::check_bootstrap;
 use checks::check_length;
 use checks::check_payload;
 use header_bytes::encode_header;
-use header_checks::check_header;
-use protocol::outer::Written;
-use protocol::outer::put_record;
-use record::record::ParsedHeader;
-use record::record::Record;
-use record::record::no_record;
+use protocol::Written;
+use protocol::put_record;
+use record::Record;
 use types::RecordType;
 use types::TypeLookup;
 use wire::Epoch;
+use wire::Refusal;
 use wire::Sequence;
-use wire::refusal::Refusal;
 ghost use mathlib.Core.Path.{_≡_};
 ghost use Rattle.wire.specs.Refusals.{first};
 ghost use Rattle.protocol.specs.Outer.{outcome};
 ghost use Rattle.types.specs.Types.{codeOf};
-ghost use Rattle.record.specs.Record.{recordRows, recordWith, recordOf, parseHeader, encodeRecord};
+ghost use Rattle.record.specs.Record.{recordRows, recordWith, recordOf, encodeRecord};
 
 // The fields of a header of a given type.
 fn record_with(header: &[u8; 44], record_type: RecordType) -> Record
@@ -41,23 +38,6 @@ pub fn record_of(header: &[u8; 44]) -> Record
         return record_with(header, RecordType::GuestAttach);
     };
     record_with(header, record_type)
-}
-
-// Decodes and validates a record header.
-pub fn parse_header(header: &[u8; 44]) -> ParsedHeader
-    ensures { λ r. ⌜ r ≡ parseHeader (now (header .entry)) ⌝ }
-{
-    let refusal = check_header(header);
-    if refusal.number != 0 {
-        return ParsedHeader {
-            refusal,
-            record: no_record(),
-        };
-    }
-    ParsedHeader {
-        refusal: Refusal::none(),
-        record: record_of(header),
-    }
 }
 
 // The checks that the encoder makes before 22: 5, 6, then 8, 9, 7.

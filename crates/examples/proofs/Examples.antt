@@ -17,7 +17,7 @@ use Rattle.guest_accept.specs.Receive.{acceptReset, acceptData, accept, afterPu
 use Rattle.guest_writes.specs.Writes.{writes}
 use Rattle.guest_calls.specs.Calls.{attach, acknowledge}
 use Rattle.guest_send.specs.Send.{send, credit}
-use Rattle.wire.specs.declared.refusal.Refusal.{Refusal}
+use Rattle.wire.specs.declared.Refusal.{Refusal}
 use Rattle.parser.specs.Push.{Push}
 use Rattle.examples.specs.Examples.{MarkedExamples}
 use Rattle.examples.proofs.Payloads.{data-read}

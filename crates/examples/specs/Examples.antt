@@ -9,20 +9,20 @@ use Rattle.wire.specs.Bytes.{toLe}
 use Rattle.wire.specs.Refusals.{refusal, none, passes}
 use Rattle.wire.specs.Header.{headerBytes}
 use Rattle.protocol.specs.Outer as Outer
-use Rattle.wire.specs.declared.refusal.Refusal.{Refusal}
+use Rattle.wire.specs.declared.Refusal.{Refusal}
 use Rattle.record.specs.Record.{recordBytes, encodeRecord}
 use Rattle.parser.specs.Push.{Push, push, fresh, neededOf, counted}
-use Rattle.parser.specs.declared.parser.RecordParser.{RecordParser}
+use Rattle.parser.specs.declared.RecordParser.{RecordParser}
 use Rattle.session.specs.Checks.{identity}
-use Rattle.session.specs.declared.session.Identity.{Identity}
+use Rattle.session.specs.declared.Identity.{Identity}
 use Rattle.guest.specs.State.{freshGuest}
 use Rattle.guest_accept.specs.Receive.{Receive, receive}
 use Rattle.guest_calls.specs.Calls.{attach, acknowledge}
 use Rattle.guest_send.specs.Send.{send, credit}
-use Rattle.guest.specs.declared.guest.GuestState.{GuestState}
-use Rattle.guest.specs.declared.guest.GuestState.the-variants as State
+use Rattle.guest.specs.declared.GuestState.{GuestState}
+use Rattle.guest.specs.declared.GuestState.the-variants as State
 use Rattle.guest_accept.specs.declared.GuestEvent.the-variants as Event
-use Rattle.guest.specs.declared.guest.GuestSession.{GuestSession}
+use Rattle.guest.specs.declared.GuestSession.{GuestSession}
 
 -- ---- what the examples speak of
 -- the last sequence, and the one before it

@@ -5,6 +5,8 @@ use numbers::u64_from_le_bytes;
 use wire::Epoch;
 use wire::Sequence;
 ghost use mathlib.Core.Path.{_≡_};
+ghost use Prim.Native.Nat.{_≤_};
+ghost use Rattle.wire.specs.Bytes.{bytesAt};
 ghost use Rattle.wire.specs.Header.{magicOf, versionOf, typeOf, flagsOf, instanceOf, epochOf, sequenceOf, lengthOf};
 
 pub fn magic(header: &[u8; 44]) -> u32
@@ -43,34 +45,30 @@ pub fn instance_id(header: &[u8; 44]) -> [u8; 16]
     bytes
 }
 
+// Eight bytes of a header.
+fn eight(header: &[u8; 44], at: usize) -> [u8; 8]
+    requires { ⌜ at ≤ 36 ⌝ }
+    ensures { λ r. ⌜ r ≡ bytesAt at 8 (now (header .entry)) ⌝ }
+{
+    let mut bytes = [0u8; 8];
+    let mut i: usize = 0;
+    while i < 8 {
+        bytes[i] = header[at + i];
+        i += 1;
+    }
+    bytes
+}
+
 pub fn epoch(header: &[u8; 44]) -> Epoch
     ensures { λ r. ⌜ r .0 ≡ epochOf (now (header .entry)) ⌝ }
 {
-    Epoch(u64_from_le_bytes([
-        header[24],
-        header[25],
-        header[26],
-        header[27],
-        header[28],
-        header[29],
-        header[30],
-        header[31],
-    ]))
+    Epoch(u64_from_le_bytes(eight(header, 24)))
 }
 
 pub fn sequence(header: &[u8; 44]) -> Sequence
     ensures { λ r. ⌜ r .0 ≡ sequenceOf (now (header .entry)) ⌝ }
 {
-    Sequence(u64_from_le_bytes([
-        header[32],
-        header[33],
-        header[34],
-        header[35],
-        header[36],
-        header[37],
-        header[38],
-        header[39],
-    ]))
+    Sequence(u64_from_le_bytes(eight(header, 32)))
 }
 
 // The payload's length as the header says it.

@@ -8,9 +8,9 @@ use borrow.Author.Tests.{le-leb, lt-leb, eq-eqb, ne-eqb, eqb-true, leb-true, not
 use Rattle.wire.proofs.Rows.{and-left, and-right}
 use Rattle.parser.specs.Push.{soundParser}
 use Rattle.session.specs.Checks.{holds}
-use Rattle.session.specs.declared.session.OptionalIdentity.{OptionalIdentity}
+use Rattle.session.specs.declared.OptionalIdentity.{OptionalIdentity}
 use Rattle.guest.specs.State.{code, soundGuest, activeGuest, figuresOk}
-use Rattle.guest.specs.declared.guest.GuestSession.{GuestSession}
+use Rattle.guest.specs.declared.GuestSession.{GuestSession}
 
 module _ (s : ℕ) (i : OptionalIdentity) where
   pub need-low : s < 2 → true ≡ not (leb 2 s && leb s 3) || holds i

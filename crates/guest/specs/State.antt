@@ -3,15 +3,15 @@ use Prim.Native.Nat.{ℕ, _+_}
 use mathlib.Core.Bool.{Bool, true, false, not, _&&_, _||_}
 use lib.Dec.{eqb, leb}
 use Rattle.protocol.specs.Outer.{maxWindow}
-use Rattle.record.specs.declared.record.Record.{Record}
+use Rattle.record.specs.declared.Record.{Record}
 use Rattle.parser.specs.Push.{fresh, soundParser}
-use Rattle.parser.specs.declared.parser.RecordParser.{RecordParser}
+use Rattle.parser.specs.declared.RecordParser.{RecordParser}
 use Rattle.session.specs.Checks.{noIdentity, holds, identityOf}
-use Rattle.session.specs.declared.session.Identity.{Identity}
-use Rattle.session.specs.declared.session.OptionalIdentity.{OptionalIdentity}
-use Rattle.guest.specs.declared.guest.GuestState.{GuestState}
-use Rattle.guest.specs.declared.guest.GuestState.the-variants as State
-use Rattle.guest.specs.declared.guest.GuestSession.{GuestSession}
+use Rattle.session.specs.declared.Identity.{Identity}
+use Rattle.session.specs.declared.OptionalIdentity.{OptionalIdentity}
+use Rattle.guest.specs.declared.GuestState.{GuestState}
+use Rattle.guest.specs.declared.GuestState.the-variants as State
+use Rattle.guest.specs.declared.GuestSession.{GuestSession}
 
 abbrev pub code : GuestState → ℕ
 code State.Detached = 0

@@ -8,22 +8,22 @@ use lib.ListN.{length}
 use lib.Dec.{eqb, leb, ltb}
 use borrow.Author.Tests.{le-leb, lt-leb, eq-eqb, ne-eqb, ltb-true, leb-true, not-true, not-false}
 use Rattle.wire.specs.Refusals.{pick, refusal, none, first, passes}
-use Rattle.wire.specs.declared.refusal.Refusal.{Refusal}
+use Rattle.wire.specs.declared.Refusal.{Refusal}
 use Rattle.wire.proofs.Rows.{passed, pass-all, row-stops, row-passes}
 use Rattle.types.specs.Types.{codeOf}
 use Rattle.parser.specs.Push.{Push, push, pushStage, heldIn, pushOf}
 use Rattle.parser.specs.Push as pushing
-use Rattle.parser.specs.declared.parser.RecordParser.{RecordParser}
-use Rattle.parser.specs.declared.parser.Place.the-variants.{Piece}
-use Rattle.parser.specs.declared.parser.Pushed.{Pushed}
+use Rattle.parser.specs.declared.RecordParser.{RecordParser}
+use Rattle.parser.specs.declared.Place.the-variants.{Piece}
+use Rattle.parser.specs.declared.Pushed.{Pushed}
 use Rattle.session.specs.Checks.{noIdentity, identityOf, lastSequence}
-use Rattle.session.specs.declared.session.Identity.{Identity}
+use Rattle.session.specs.declared.Identity.{Identity}
 use Rattle.guest.specs.State.{code, isOpen, isActive, soundGuest, withState, resetSession, dataGuest}
 use Rattle.guest_checks.specs.Checks.{resetRows, dataRows}
 use Rattle.guest_accept.specs.Receive.{typeRow, isReset, Receive, answered, refused, told, acceptReset, acceptData, accept, afterPush, receiveRows, receive, receiveStage, outcome, receiveOf}
-use Rattle.guest.specs.declared.guest.GuestState.the-variants as State
+use Rattle.guest.specs.declared.GuestState.the-variants as State
 use Rattle.guest_accept.specs.declared.GuestEvent.the-variants as Event
-use Rattle.guest.specs.declared.guest.GuestSession.{GuestSession}
+use Rattle.guest.specs.declared.GuestSession.{GuestSession}
 use Rattle.guest_accept.specs.declared.Received.{Received}
 
 -- ---- the states that receive

@@ -7,21 +7,21 @@ use lib.ListN.{length}
 use lib.Dec.{eqb, leb}
 use Rattle.wire.specs.Refusals.{pick, refusal, none, first, passes}
 use Rattle.protocol.specs.Outer.{maxPayload}
-use Rattle.wire.specs.declared.refusal.Refusal.{Refusal}
+use Rattle.wire.specs.declared.Refusal.{Refusal}
 use Rattle.types.specs.Types.{codeOf}
-use Rattle.record.specs.declared.record.Record.{Record}
+use Rattle.record.specs.declared.Record.{Record}
 use Rattle.parser.specs.Push.{Push, push, pushStage, heldIn}
-use Rattle.parser.specs.declared.parser.Place.{Place}
-use Rattle.parser.specs.declared.parser.Place.the-variants.{Piece}
-use Rattle.parser.specs.declared.parser.Pushed.{Pushed}
+use Rattle.parser.specs.declared.Place.{Place}
+use Rattle.parser.specs.declared.Place.the-variants.{Piece}
+use Rattle.parser.specs.declared.Pushed.{Pushed}
 use Rattle.session.specs.Checks.{noIdentity, identityOf}
-use Rattle.session.specs.declared.session.Identity.{Identity}
+use Rattle.session.specs.declared.Identity.{Identity}
 use Rattle.guest.specs.State.{isOpen, isActive, soundGuest, withState, resetGuest, dataGuest}
-use Rattle.guest.specs.declared.guest.GuestState.{GuestState}
-use Rattle.guest.specs.declared.guest.GuestState.the-variants as State
+use Rattle.guest.specs.declared.GuestState.{GuestState}
+use Rattle.guest.specs.declared.GuestState.the-variants as State
 use Rattle.guest_accept.specs.declared.GuestEvent.{GuestEvent}
 use Rattle.guest_accept.specs.declared.GuestEvent.the-variants as Event
-use Rattle.guest.specs.declared.guest.GuestSession.{GuestSession}
+use Rattle.guest.specs.declared.GuestSession.{GuestSession}
 use Rattle.guest_accept.specs.declared.Received.{Received}
 use Rattle.guest_checks.specs.Checks.{resetRows, dataRows}
 

@@ -1,28 +1,29 @@
 // What a guest's session makes of a push (01, "receive"), by value: `receive_any` is any receive. The
-// quick way of `guest_receive` falls back on it.
-use guest::guest::GuestSession;
-use guest::guest::GuestState;
+// quick way of `guest_receive` falls back on it. `payload` has the bytes of DATA that a receive handed
+// out; it is the parser's.
+use guest::GuestSession;
+use guest::GuestState;
 use guest_checks::check_data;
 use guest_checks::check_reset;
-use parser::parser::Place;
-use parser::parser::Pushed;
-use parser::parser::RecordParser;
+use parser::Place;
+use parser::Pushed;
+use parser::RecordParser;
+pub use parser::payload;
 use parser_push::push;
-use protocol::outer::OUTER_MAX_PAYLOAD;
-use session::session::Identity;
-use session::session::OptionalIdentity;
-use session::session::identity_in;
-use session::session::no_identity;
+use protocol::OUTER_MAX_PAYLOAD;
+use session::Identity;
+use session::OptionalIdentity;
+use session::identity_in;
+use session::no_identity;
+use wire::Refusal;
 use wire::Sequence;
-use wire::refusal::Refusal;
 ghost use mathlib.Core.Path.{_≡_};
 ghost use mathlib.Core.Bool.{_&&_};
 ghost use Prim.Native.Nat.{_+_, _≤_, _<_};
 ghost use lib.Dec.{leb};
-ghost use Rattle.parser.specs.Push.{payloadAt};
 ghost use Rattle.session.specs.Checks.{lastSequence};
 ghost use Rattle.guest.specs.State.{withState, resetSession, dataGuest};
-ghost use Rattle.guest.specs.declared.guest.GuestState.the-variants as State;
+ghost use Rattle.guest.specs.declared.GuestState.the-variants as State;
 ghost use Rattle.guest_accept.specs.Receive.{told, refused, acceptReset, acceptData, accept, afterPush, receiveOf};
 ghost use Rattle.guest_accept.specs.Receive as receiving;
 
@@ -43,13 +44,6 @@ pub struct Received {
     pub place: Place,
     pub length: usize,
     pub session: GuestSession,
-}
-
-// The bytes of DATA that a receive handed out, as a part of the piece or of the stage.
-pub fn payload<'a>(piece: &'a [u8], stage: &'a [u8], place: Place, length: usize) -> &'a [u8]
-    ensures { λ r. ⌜ now r ≡ payloadAt place length (now (piece .entry)) (now (stage .entry)) ⌝ }
-{
-    parser::parser::payload(piece, stage, place, length)
 }
 
 // Whether a guest receives in a state.

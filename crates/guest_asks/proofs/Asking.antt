@@ -4,16 +4,16 @@ use mathlib.Core.Path.{_≡_, sym, ap, _∙_}
 use mathlib.Core.Bool.{Bool, true, false, not}
 use borrow.Author.Tests.{eq-eqb, ne-eqb, not-true, not-false}
 use Rattle.wire.specs.Refusals.{refusal, none}
-use Rattle.wire.specs.declared.refusal.Refusal.{Refusal}
+use Rattle.wire.specs.declared.Refusal.{Refusal}
 use Rattle.parser.specs.Push.{neededOf, counted}
-use Rattle.parser.specs.declared.parser.Count.{Count}
+use Rattle.parser.specs.declared.Count.{Count}
 use Rattle.session.specs.Checks.{noIdentity, shown}
-use Rattle.session.specs.declared.session.Identity.{Identity}
-use Rattle.session.specs.declared.session.OptionalIdentity.{OptionalIdentity}
+use Rattle.session.specs.declared.Identity.{Identity}
+use Rattle.session.specs.declared.OptionalIdentity.{OptionalIdentity}
 use Rattle.guest.specs.State.{code, soundGuest}
 use Rattle.guest_asks.specs.Asks.{stateOf, identityOf, windowOf, noWindow, outstandingOf, neededBy}
-use Rattle.guest.specs.declared.guest.GuestState.the-variants as State
-use Rattle.guest.specs.declared.guest.GuestSession.{GuestSession}
+use Rattle.guest.specs.declared.GuestState.the-variants as State
+use Rattle.guest.specs.declared.GuestSession.{GuestSession}
 use Rattle.guest_asks.specs.declared.WindowAnswer.{WindowAnswer}
 use Rattle.guest.proofs.Soundness.{sound-inside}
 

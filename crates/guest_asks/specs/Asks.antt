@@ -1,13 +1,13 @@
 -- The rules of what a guest's session answers when asked (01, "Guest"): 23, then the value. They change nothing.
 use mathlib.Core.Bool.{true, false}
 use Rattle.wire.specs.Refusals.{pick, refusal, none}
-use Rattle.wire.specs.declared.refusal.Refusal.{Refusal}
+use Rattle.wire.specs.declared.Refusal.{Refusal}
 use Rattle.parser.specs.Push.{neededOf}
-use Rattle.parser.specs.declared.parser.Count.{Count}
+use Rattle.parser.specs.declared.Count.{Count}
 use Rattle.session.specs.Checks.{noIdentity, shown}
 use Rattle.guest.specs.State.{isActive, soundGuest}
-use Rattle.guest.specs.declared.guest.GuestState.the-variants as State
-use Rattle.guest.specs.declared.guest.GuestSession.{GuestSession}
+use Rattle.guest.specs.declared.GuestState.the-variants as State
+use Rattle.guest.specs.declared.GuestSession.{GuestSession}
 use Rattle.guest_asks.specs.declared.StateAnswer.{StateAnswer}
 use Rattle.guest_asks.specs.declared.IdentityAnswer.{IdentityAnswer}
 use Rattle.guest_asks.specs.declared.WindowAnswer.{WindowAnswer}

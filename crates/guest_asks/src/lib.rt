@@ -1,10 +1,10 @@
 // What a guest's session answers when asked (01, "Guest"): 23, or the value. Nothing changes.
-use guest::guest::GuestSession;
-use guest::guest::GuestState;
-use parser::parser::Count;
-use session::session::OptionalIdentity;
-use session::session::no_identity;
-use wire::refusal::Refusal;
+use guest::GuestSession;
+use guest::GuestState;
+use parser::Count;
+use session::OptionalIdentity;
+use session::no_identity;
+use wire::Refusal;
 ghost use mathlib.Core.Path.{_≡_};
 ghost use Rattle.guest_asks.specs.Asks.{stateOf, identityOf, windowOf, noWindow, outstandingOf, neededBy};
 

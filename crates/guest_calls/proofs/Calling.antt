@@ -11,19 +11,19 @@ use Rattle.wire.specs.Bytes.{toLe}
 use Rattle.wire.specs.Refusals.{refusal, none, first}
 use Rattle.protocol.specs.Outer.{windowOk, valueOf, write, roomRow}
 use Rattle.protocol.specs.Outer as outer
-use Rattle.wire.specs.declared.refusal.Refusal.{Refusal}
-use Rattle.protocol.specs.declared.outer.Written.{Written}
+use Rattle.wire.specs.declared.Refusal.{Refusal}
+use Rattle.protocol.specs.declared.Written.{Written}
 use Rattle.types.specs.Types.{lengthOk}
 use Rattle.record.specs.Record.{allZero, encodeRows, recordBytes, encodeRecord}
 use Rattle.parser.specs.Push.{bufferedOf, counted}
-use Rattle.parser.specs.declared.parser.Count.{Count}
+use Rattle.parser.specs.declared.Count.{Count}
 use Rattle.next_record.specs.Writes.{identityBytes}
-use Rattle.session.specs.declared.session.Identity.{Identity}
+use Rattle.session.specs.declared.Identity.{Identity}
 use Rattle.guest.specs.State.{code, soundGuest, withState, ackGuest}
 use Rattle.guest_writes.specs.Writes.{outcome, notSent, sentRecord}
 use Rattle.guest_calls.specs.Calls.{attachRows, attach, ackRows, acknowledge, disconnect}
-use Rattle.guest.specs.declared.guest.GuestState.the-variants as State
-use Rattle.guest.specs.declared.guest.GuestSession.{GuestSession}
+use Rattle.guest.specs.declared.GuestState.the-variants as State
+use Rattle.guest.specs.declared.GuestSession.{GuestSession}
 use Rattle.guest_writes.specs.declared.Sent.{Sent}
 use Rattle.guest_calls.specs.declared.Closed.{Closed}
 use Rattle.guest.proofs.Soundness.{sound-inside}

@@ -7,13 +7,13 @@ use lib.Dec.{eqb}
 use Rattle.wire.specs.Bytes.{toLe}
 use Rattle.wire.specs.Refusals.{pick, refusal, none, first}
 use Rattle.protocol.specs.Outer.{windowOk, roomRow}
-use Rattle.wire.specs.declared.refusal.Refusal.{Refusal}
+use Rattle.wire.specs.declared.Refusal.{Refusal}
 use Rattle.record.specs.Record.{recordBytes}
 use Rattle.parser.specs.Push.{bufferedOf}
 use Rattle.next_record.specs.Writes.{identityBytes}
 use Rattle.guest.specs.State.{isDetached, isResetting, isEnded, soundGuest, withState, ackGuest}
-use Rattle.guest.specs.declared.guest.GuestState.the-variants as State
-use Rattle.guest.specs.declared.guest.GuestSession.{GuestSession}
+use Rattle.guest.specs.declared.GuestState.the-variants as State
+use Rattle.guest.specs.declared.GuestSession.{GuestSession}
 use Rattle.guest_writes.specs.Writes.{soundRow, Outcome, writes}
 use Rattle.guest_calls.specs.declared.Closed.{Closed}
 

@@ -1,19 +1,19 @@
 // How a guest attaches, acknowledges a reset and ends (01, "Guest"), by value: each call takes the
 // session and answers with the session after it.
 use codec::encode_record;
-use guest::guest::GuestSession;
-use guest::guest::GuestState;
+use guest::GuestSession;
+use guest::GuestState;
 use guest_writes::Sent;
 use guest_writes::not_sent;
 use guest_writes::record_sent;
 use numbers::u32_to_le_bytes;
-use protocol::outer::Written;
-use session::session::Identity;
+use protocol::Written;
+use session::Identity;
 use session_checks::stopped;
 use types::RecordType;
 use wire::Epoch;
+use wire::Refusal;
 use wire::Sequence;
-use wire::refusal::Refusal;
 ghost use mathlib.Core.Path.{_≡_};
 ghost use mathlib.Core.List.{[]};
 ghost use lib.ListN.{replicate};

@@ -7,16 +7,16 @@ use native.Mathlib.Omega.{arith}
 use lib.Dec.{leb}
 use borrow.Author.Tests.{le-leb, lt-leb, not-true, not-false}
 use Rattle.wire.specs.Refusals.{pick, refusal, none, first}
-use Rattle.wire.specs.declared.refusal.Refusal.{Refusal}
+use Rattle.wire.specs.declared.Refusal.{Refusal}
 use Rattle.wire.proofs.Rows.{row-stops, row-passes, no-rows, rows-stop, rows-pass}
-use Rattle.record.specs.declared.record.Record.{Record}
+use Rattle.record.specs.declared.Record.{Record}
 use Rattle.session.specs.Checks.{same, noIdentity, identityOf, identityOk, recordIdentity, nextSequence, nextRow, sequenceRow, instanceRow, epochRow}
-use Rattle.session.specs.declared.session.Identity.{Identity}
-use Rattle.session.specs.declared.session.OptionalIdentity.{OptionalIdentity}
-use Rattle.session.specs.declared.session.NextSequence.{NextSequence}
+use Rattle.session.specs.declared.Identity.{Identity}
+use Rattle.session.specs.declared.OptionalIdentity.{OptionalIdentity}
+use Rattle.session.specs.declared.NextSequence.{NextSequence}
 use Rattle.session.proofs.Cases.{next-refusal}
 use Rattle.guest_checks.specs.Checks.{stale, resetRows, windowRow, dataRows}
-use Rattle.guest.specs.declared.guest.GuestSession.{GuestSession}
+use Rattle.guest.specs.declared.GuestSession.{GuestSession}
 
 -- ---- what stops a RESET
 module _ (i : OptionalIdentity) (instance : List ℕ) (epoch : ℕ) where

@@ -4,11 +4,11 @@ use mathlib.Core.Bool.{Bool, not, _&&_}
 use mathlib.Core.List.{List, [], _∷_}
 use lib.Dec.{leb}
 use Rattle.wire.specs.Refusals.{refusal}
-use Rattle.wire.specs.declared.refusal.Refusal.{Refusal}
-use Rattle.record.specs.declared.record.Record.{Record}
+use Rattle.wire.specs.declared.Refusal.{Refusal}
+use Rattle.record.specs.declared.Record.{Record}
 use Rattle.session.specs.Checks.{same, identityRow, nextRow, sequenceRow, instanceRow, epochRow}
-use Rattle.session.specs.declared.session.OptionalIdentity.{OptionalIdentity}
-use Rattle.guest.specs.declared.guest.GuestSession.{GuestSession}
+use Rattle.session.specs.declared.OptionalIdentity.{OptionalIdentity}
+use Rattle.guest.specs.declared.GuestSession.{GuestSession}
 
 -- same instance, epoch not above
 abbrev pub stale : OptionalIdentity → List ℕ → ℕ → Bool

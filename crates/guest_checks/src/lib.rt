@@ -1,17 +1,17 @@
 // What stops a whole record at a guest (01, "receive"): a RESET, and DATA.
-use guest::guest::GuestSession;
-use record::record::Record;
-use session::session::Identity;
-use session::session::OptionalIdentity;
-use session::session::identity_in;
-use session::session::next_sequence;
-use session::session::record_identity;
-use session::session::same_instance;
+use guest::GuestSession;
+use record::Record;
+use session::Identity;
+use session::OptionalIdentity;
+use session::identity_in;
+use session::next_sequence;
+use session::record_identity;
+use session::same_instance;
 use session_checks::check_identity;
 use session_checks::check_sequence;
 use types::RecordType;
+use wire::Refusal;
 use wire::Sequence;
-use wire::refusal::Refusal;
 ghost use mathlib.Core.Path.{_≡_};
 ghost use mathlib.Core.List.{[], _∷_};
 ghost use Prim.Native.Nat.{_-_};

@@ -1,9 +1,9 @@
 // The entry for credit that changes the caller's guest session, as that of guest_entry for receive,
 // and the function by value over it.
-use guest::guest::GuestSession;
+use guest::GuestSession;
 use guest_send::credit;
 use guest_writes::Sent;
-use wire::refusal::Refusal;
+use wire::Refusal;
 ghost use mathlib.Core.Path.{_≡_};
 ghost use Rattle.guest_writes.specs.Writes.{outcome};
 ghost use Rattle.guest_send.specs.Send.{credit};

@@ -1,12 +1,12 @@
 // The entry for receive that changes the caller's guest session (01, "thin entries for receive and
 // credit change the caller's session"). It passes a copy of the session to the operation by value
 // and stores the session of its answer back.
-use guest::guest::GuestSession;
+use guest::GuestSession;
 use guest_accept::GuestEvent;
 use guest_receive::receive;
-use parser::parser::Place;
-use session::session::Identity;
-use wire::refusal::Refusal;
+use parser::Place;
+use session::Identity;
+use wire::Refusal;
 ghost use mathlib.Core.Path.{_≡_};
 ghost use Rattle.guest_accept.specs.Receive.{receiveOf};
 ghost use Rattle.guest_entry.specs.Answers.{receiveAnswer};

@@ -1,6 +1,6 @@
 // `receive_in` of guest_entry on a session that is passed and answered by value, for callers that
 // hold the session themselves.
-use guest::guest::GuestSession;
+use guest::GuestSession;
 use guest_accept::Received;
 use guest_entry::receive_in;
 ghost use mathlib.Core.Path.{_≡_};

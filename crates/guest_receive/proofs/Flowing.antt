@@ -18,16 +18,16 @@ use Rattle.types.specs.Types.{codeOf}
 use Rattle.record.specs.Record.{headerChecks, payloadChecks, recordWith, recordOf}
 use Rattle.parser.specs.Push.{parserOf, soundParser, clear, waiting, completed, finish, pushBody, bodyStage, headTaken, headWith, pushOf}
 use Rattle.parser.specs.Push as pushing
-use Rattle.parser.specs.declared.parser.Place.{Place}
-use Rattle.parser.specs.declared.parser.Place.the-variants.{Piece, Stage}
-use Rattle.parser.specs.declared.parser.Pushed.{Pushed}
-use Rattle.parser.specs.declared.parser.RecordParser.{RecordParser}
+use Rattle.parser.specs.declared.Place.{Place}
+use Rattle.parser.specs.declared.Place.the-variants.{Piece, Stage}
+use Rattle.parser.specs.declared.Pushed.{Pushed}
+use Rattle.parser.specs.declared.RecordParser.{RecordParser}
 use Rattle.parser.proofs.Cases.{type-code, length-low, sound-passes, body-waits, body-piece, body-stage, head-waits, head-checked, sound-goes, sound-room, open-taken}
 use Rattle.session.specs.Checks.{same, noIdentity, lastSequence}
-use Rattle.wire.specs.declared.refusal.Refusal.{Refusal}
-use Rattle.session.specs.declared.session.Identity.{Identity}
+use Rattle.wire.specs.declared.Refusal.{Refusal}
+use Rattle.session.specs.declared.Identity.{Identity}
 use Rattle.guest.specs.State.{code, activeGuest, withState}
-use Rattle.guest.specs.declared.guest.GuestSession.{GuestSession}
+use Rattle.guest.specs.declared.GuestSession.{GuestSession}
 use Rattle.guest.proofs.Soundness.{active-state, active-low, active-sound}
 use Rattle.guest_checks.specs.Checks.{dataRows}
 use Rattle.guest_accept.specs.Receive.{told, afterPush, outcome, receiveOf}

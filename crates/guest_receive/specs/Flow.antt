@@ -13,11 +13,11 @@ use Rattle.protocol.specs.Outer.{maxPayload}
 use Rattle.record.specs.Record.{headerChecks, recordOf}
 use Rattle.parser.specs.Push.{parserOf, clear, failed, pushBody, bodyStage}
 use Rattle.parser.specs.Push as pushing
-use Rattle.parser.specs.declared.parser.Place.{Place}
-use Rattle.parser.specs.declared.parser.Place.the-variants.{Piece}
+use Rattle.parser.specs.declared.Place.{Place}
+use Rattle.parser.specs.declared.Place.the-variants.{Piece}
 use Rattle.session.specs.Checks.{noIdentity}
 use Rattle.guest.specs.State.{activeGuest}
-use Rattle.guest.specs.declared.guest.GuestSession.{GuestSession}
+use Rattle.guest.specs.declared.GuestSession.{GuestSession}
 use Rattle.guest_checks.specs.Checks.{dataRows}
 use Rattle.guest_accept.specs.Receive.{told, afterPush, outcome}
 use Rattle.guest_accept.specs.declared.GuestEvent.{GuestEvent}

@@ -1,23 +1,23 @@
 // What a guest's session takes in (01, "receive"), by value: it takes the session and answers with
 // the session after it. DATA that flows has a quick way here; `guest_accept` has the rest.
 use copying::copy_at;
-use guest::guest::GuestSession;
+use guest::GuestSession;
 use guest_accept::GuestEvent;
 use guest_accept::Received;
 use guest_accept::receive_any;
 use header_checks::is_data;
-use parser::parser::Place;
-use parser::parser::RecordParser;
+use parser::Place;
+use parser::RecordParser;
 use parts::filled;
-use protocol::outer::OUTER_HEADER_LEN;
-use protocol::outer::OUTER_MAX_PAYLOAD;
-use session::session::Identity;
-use session::session::OptionalIdentity;
-use session::session::no_identity;
-use session::session::same_instance;
+use protocol::OUTER_HEADER_LEN;
+use protocol::OUTER_MAX_PAYLOAD;
+use session::Identity;
+use session::OptionalIdentity;
+use session::no_identity;
+use session::same_instance;
+use wire::Refusal;
 use wire::Sequence;
-use wire::bytes::least;
-use wire::refusal::Refusal;
+use wire::least;
 ghost use mathlib.Core.Path.{_≡_};
 ghost use mathlib.Core.Bool.{true};
 ghost use Prim.Native.Nat.{_+_, _^_, _≤_, _<_};

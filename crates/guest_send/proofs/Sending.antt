@@ -11,20 +11,20 @@ use borrow.Author.Tests.{le-leb, lt-leb, eq-eqb, ne-eqb, eqb-true, eqb-false, le
 use Rattle.wire.specs.Bytes.{toLe}
 use Rattle.wire.specs.Refusals.{pick, refusal, none, first, passes}
 use Rattle.protocol.specs.Outer.{creditOk, valueOf, roomRow}
-use Rattle.wire.specs.declared.refusal.Refusal.{Refusal}
+use Rattle.wire.specs.declared.Refusal.{Refusal}
 use Rattle.wire.proofs.Rows.{picked, pass-all, and-left, and-right, row-stops, row-passes}
 use Rattle.types.specs.Types.{lengthOk}
 use Rattle.parser.specs.Push.{soundParser, clear}
 use Rattle.session.specs.Checks.{lastSequence, nextRow}
 use Rattle.next_record.specs.Writes.{identityBytes, nextRows, encodeNext, encodeData}
 use Rattle.next_record.specs.Writes as writing
-use Rattle.session.specs.declared.session.Identity.{Identity}
+use Rattle.session.specs.declared.Identity.{Identity}
 use Rattle.next_record.specs.declared.Encoded.{Encoded}
 use Rattle.next_record.proofs.Cases.{encoded-stops, encoded-done}
 use Rattle.guest.specs.State.{code, soundGuest, activeGuest, withSent, sentGuest}
 use Rattle.guest_writes.specs.Writes.{outcome, notSent, sentRecord, writes}
 use Rattle.guest_send.specs.Send.{sendCount, sendRows, send, encoding, writeRows, credit}
-use Rattle.guest.specs.declared.guest.GuestSession.{GuestSession}
+use Rattle.guest.specs.declared.GuestSession.{GuestSession}
 use Rattle.guest_writes.specs.declared.Sent.{Sent}
 use Rattle.guest.proofs.Soundness.{active-state, active-sound, outstanding-low, window-low}
 use Rattle.guest_writes.proofs.Writing.{stops, does, begin, told-of, call-stops, goes-on, begins-sound, value-back}

@@ -7,12 +7,12 @@ use lib.Dec.{leb}
 use Rattle.wire.specs.Bytes.{toLe}
 use Rattle.wire.specs.Refusals.{pick, refusal, first, passes}
 use Rattle.protocol.specs.Outer.{maxPayload, roomRow}
-use Rattle.wire.specs.declared.refusal.Refusal.{Refusal}
+use Rattle.wire.specs.declared.Refusal.{Refusal}
 use Rattle.session.specs.Checks.{nextRow}
 use Rattle.next_record.specs.Writes.{identityBytes, notEncoded, encodeData}
 use Rattle.next_record.specs.Writes as writing
 use Rattle.guest.specs.State.{isActive, sentGuest}
-use Rattle.guest.specs.declared.guest.GuestSession.{GuestSession}
+use Rattle.guest.specs.declared.GuestSession.{GuestSession}
 use Rattle.guest_writes.specs.Writes.{soundRow, Outcome, writes}
 
 -- send: 20 not Active; 16 (a 5); 5 for empty data; 22. It takes at most the first 65,536 bytes

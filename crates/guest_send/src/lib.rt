@@ -1,6 +1,6 @@
 // What an Active guest writes (01, "Guest"): DATA and CREDIT, by value. Each call takes the session
 // and answers with the session after it.
-use guest::guest::GuestSession;
+use guest::GuestSession;
 use guest_writes::Sent;
 use guest_writes::not_sent;
 use guest_writes::record_sent;
@@ -10,8 +10,8 @@ use next_record::encode_next;
 use numbers::u32_to_le_bytes;
 use session_checks::stopped;
 use types::RecordType;
+use wire::Refusal;
 use wire::Sequence;
-use wire::refusal::Refusal;
 ghost use mathlib.Core.Path.{_≡_};
 ghost use mathlib.Core.Bool.{true, _&&_};
 ghost use Prim.Native.Nat.{_-_, _≤_};

@@ -10,14 +10,14 @@ use Rattle.wire.specs.Bytes.{toLe, overlay}
 use Rattle.wire.specs.Refusals.{refusal, first, passes}
 use Rattle.protocol.specs.Outer.{valueOf, write}
 use Rattle.protocol.specs.Outer as outer
-use Rattle.wire.specs.declared.refusal.Refusal.{Refusal}
-use Rattle.protocol.specs.declared.outer.Written.{Written}
+use Rattle.wire.specs.declared.Refusal.{Refusal}
+use Rattle.protocol.specs.declared.Written.{Written}
 use Rattle.wire.proofs.Numbers.{from-to, length-to}
 use Rattle.wire.proofs.Rows.{passed, rows-stop, rows-pass}
 use Rattle.protocol.proofs.Writes.{write-stops, write-done}
 use Rattle.session_checks.proofs.Stopping.{beginRows}
 use Rattle.guest.specs.State.{code, soundGuest}
-use Rattle.guest.specs.declared.guest.GuestSession.{GuestSession}
+use Rattle.guest.specs.declared.GuestSession.{GuestSession}
 use Rattle.guest_writes.specs.Writes.{soundRow, outcome, notSent, sentRecord, writes}
 use Rattle.guest_writes.specs.declared.Sent.{Sent}
 

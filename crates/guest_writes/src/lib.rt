@@ -1,6 +1,6 @@
 // What the calls of a guest that write answer (01, "Guest").
-use guest::guest::GuestSession;
-use wire::refusal::Refusal;
+use guest::GuestSession;
+use wire::Refusal;
 ghost use mathlib.Core.Path.{_≡_};
 ghost use Rattle.guest_writes.specs.Writes.{notSent, sentRecord};
 

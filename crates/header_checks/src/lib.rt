@@ -6,7 +6,7 @@ use header_bytes::OUTER_VERSION;
 use numbers::u32_from_le_bytes;
 use types::RecordType;
 use types::TypeLookup;
-use wire::refusal::Refusal;
+use wire::Refusal;
 ghost use mathlib.Core.Path.{_≡_};
 ghost use mathlib.Core.Bool.{_&&_};
 ghost use lib.Dec.{eqb};

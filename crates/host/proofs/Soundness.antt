@@ -8,9 +8,9 @@ use borrow.Author.Tests.{eq-eqb, ne-eqb, not-true, not-false}
 use Rattle.wire.proofs.Rows.{and-left}
 use Rattle.parser.specs.Push.{soundParser}
 use Rattle.session.specs.Checks.{holds}
-use Rattle.session.specs.declared.session.OptionalIdentity.{OptionalIdentity}
+use Rattle.session.specs.declared.OptionalIdentity.{OptionalIdentity}
 use Rattle.host.specs.State.{code, isAttached, soundHost}
-use Rattle.host.specs.declared.host.HostSession.{HostSession}
+use Rattle.host.specs.declared.HostSession.{HostSession}
 
 -- ---- soundness
 module _ (s : ℕ) (i : OptionalIdentity) where

@@ -3,12 +3,12 @@ use Prim.Native.Nat.{ℕ, _+_}
 use mathlib.Core.Bool.{Bool, false, not, _&&_, _||_}
 use lib.Dec.{eqb, leb}
 use Rattle.parser.specs.Push.{fresh, soundParser}
-use Rattle.parser.specs.declared.parser.RecordParser.{RecordParser}
+use Rattle.parser.specs.declared.RecordParser.{RecordParser}
 use Rattle.session.specs.Checks.{noIdentity, holds}
-use Rattle.session.specs.declared.session.OptionalIdentity.{OptionalIdentity}
-use Rattle.host.specs.declared.host.HostState.{HostState}
-use Rattle.host.specs.declared.host.HostState.the-variants as State
-use Rattle.host.specs.declared.host.HostSession.{HostSession}
+use Rattle.session.specs.declared.OptionalIdentity.{OptionalIdentity}
+use Rattle.host.specs.declared.HostState.{HostState}
+use Rattle.host.specs.declared.HostState.the-variants as State
+use Rattle.host.specs.declared.HostSession.{HostSession}
 
 abbrev pub code : HostState → ℕ
 code State.Detached = 0

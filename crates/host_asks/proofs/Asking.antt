@@ -3,16 +3,16 @@ use mathlib.Core.Path.{_≡_, sym, ap, _∙_}
 use mathlib.Core.Bool.{Bool, true, false, not}
 use borrow.Author.Tests.{not-true, not-false}
 use Rattle.wire.specs.Refusals.{refusal, none}
-use Rattle.wire.specs.declared.refusal.Refusal.{Refusal}
+use Rattle.wire.specs.declared.Refusal.{Refusal}
 use Rattle.parser.specs.Push.{neededOf, counted}
-use Rattle.parser.specs.declared.parser.Count.{Count}
+use Rattle.parser.specs.declared.Count.{Count}
 use Rattle.session.specs.Checks.{noIdentity, shown}
-use Rattle.session.specs.declared.session.Identity.{Identity}
-use Rattle.session.specs.declared.session.OptionalIdentity.{OptionalIdentity}
+use Rattle.session.specs.declared.Identity.{Identity}
+use Rattle.session.specs.declared.OptionalIdentity.{OptionalIdentity}
 use Rattle.host.specs.State.{soundHost}
 use Rattle.host_asks.specs.Asks.{stateTold, stateOf, identityTold, identityOf, neededBy}
-use Rattle.host.specs.declared.host.HostState.the-variants as State
-use Rattle.host.specs.declared.host.HostSession.{HostSession}
+use Rattle.host.specs.declared.HostState.the-variants as State
+use Rattle.host.specs.declared.HostSession.{HostSession}
 use Rattle.host_asks.specs.declared.StateAnswer.{StateAnswer}
 use Rattle.host_asks.specs.declared.IdentityAnswer.{IdentityAnswer}
 use Rattle.host.proofs.Soundness.{sound-inside}

@@ -1,15 +1,15 @@
 -- The rules of what a host's session is asked (01, "Host" and "What stops each operation").
 use mathlib.Core.Bool.{false}
 use Rattle.wire.specs.Refusals.{pick, refusal, none}
-use Rattle.wire.specs.declared.refusal.Refusal.{Refusal}
+use Rattle.wire.specs.declared.Refusal.{Refusal}
 use Rattle.parser.specs.Push.{neededOf}
-use Rattle.parser.specs.declared.parser.Count.{Count}
+use Rattle.parser.specs.declared.Count.{Count}
 use Rattle.session.specs.Checks.{noIdentity, shown}
-use Rattle.session.specs.declared.session.OptionalIdentity.{OptionalIdentity}
+use Rattle.session.specs.declared.OptionalIdentity.{OptionalIdentity}
 use Rattle.host.specs.State.{soundHost}
-use Rattle.host.specs.declared.host.HostState.{HostState}
-use Rattle.host.specs.declared.host.HostState.the-variants as State
-use Rattle.host.specs.declared.host.HostSession.{HostSession}
+use Rattle.host.specs.declared.HostState.{HostState}
+use Rattle.host.specs.declared.HostState.the-variants as State
+use Rattle.host.specs.declared.HostSession.{HostSession}
 use Rattle.host_asks.specs.declared.StateAnswer.{StateAnswer}
 use Rattle.host_asks.specs.declared.IdentityAnswer.{IdentityAnswer}
 

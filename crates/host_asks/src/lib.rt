@@ -1,10 +1,10 @@
 // What a host's session answers when asked (01, "Host"): 23, or the value. Nothing changes.
-use host::host::HostSession;
-use host::host::HostState;
-use parser::parser::Count;
-use session::session::OptionalIdentity;
-use session::session::no_identity;
-use wire::refusal::Refusal;
+use host::HostSession;
+use host::HostState;
+use parser::Count;
+use session::OptionalIdentity;
+use session::no_identity;
+use wire::Refusal;
 ghost use mathlib.Core.Path.{_≡_};
 ghost use Rattle.host_asks.specs.Asks.{stateTold, stateOf, identityTold, identityOf, neededBy};
 

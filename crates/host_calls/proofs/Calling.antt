@@ -11,14 +11,14 @@ use Rattle.wire.specs.Bytes.{overlay}
 use Rattle.wire.specs.Refusals.{pick, refusal, none, first, passes}
 use Rattle.protocol.specs.Outer.{write, roomRow}
 use Rattle.protocol.specs.Outer as outer
-use Rattle.wire.specs.declared.refusal.Refusal.{Refusal}
-use Rattle.protocol.specs.declared.outer.Written.{Written}
+use Rattle.wire.specs.declared.Refusal.{Refusal}
+use Rattle.protocol.specs.declared.Written.{Written}
 use Rattle.wire.proofs.Rows.{rows-stop, rows-pass}
 use Rattle.protocol.proofs.Writes.{write-stops, write-done}
 use Rattle.types.specs.Types.{lengthOk}
 use Rattle.record.specs.Record.{allZero, encodeRows, recordBytes, encodeRecord}
 use Rattle.parser.specs.Push.{bufferedOf, counted}
-use Rattle.parser.specs.declared.parser.Count.{Count}
+use Rattle.parser.specs.declared.Count.{Count}
 use Rattle.session.specs.Checks.{lastSequence, nextRow}
 use Rattle.session_checks.proofs.Stopping.{beginRows}
 use Rattle.next_record.specs.Writes.{identityBytes, nextRows, encodeData}
@@ -27,8 +27,8 @@ use Rattle.next_record.specs.declared.Encoded.{Encoded}
 use Rattle.next_record.proofs.Cases.{encoded-stops, encoded-done}
 use Rattle.host.specs.State.{code, isBegun, soundHost, withState, withSent, sentHost}
 use Rattle.host_calls.specs.Calls.{soundRow, outcome, notSent, sentRecord, writes, attachRows, attach, sendCount, sendRows, send, ended, disconnect}
-use Rattle.host.specs.declared.host.HostState.the-variants as State
-use Rattle.host.specs.declared.host.HostSession.{HostSession}
+use Rattle.host.specs.declared.HostState.the-variants as State
+use Rattle.host.specs.declared.HostSession.{HostSession}
 use Rattle.host_calls.specs.declared.Sent.{Sent}
 use Rattle.host_calls.specs.declared.Closed.{Closed}
 use Rattle.host.proofs.Soundness.{sound-inside}

@@ -7,14 +7,14 @@ use lib.Dec.{eqb, leb}
 use Rattle.wire.specs.Bytes.{overlay}
 use Rattle.wire.specs.Refusals.{pick, refusal, none, first, passes}
 use Rattle.protocol.specs.Outer.{maxPayload, roomRow}
-use Rattle.wire.specs.declared.refusal.Refusal.{Refusal}
+use Rattle.wire.specs.declared.Refusal.{Refusal}
 use Rattle.record.specs.Record.{recordBytes}
 use Rattle.parser.specs.Push.{bufferedOf}
 use Rattle.session.specs.Checks.{nextRow}
 use Rattle.next_record.specs.Writes.{identityBytes}
 use Rattle.host.specs.State.{isDetached, isAttached, isBegun, soundHost, withState, sentHost}
-use Rattle.host.specs.declared.host.HostState.the-variants as State
-use Rattle.host.specs.declared.host.HostSession.{HostSession}
+use Rattle.host.specs.declared.HostState.the-variants as State
+use Rattle.host.specs.declared.HostSession.{HostSession}
 use Rattle.host_calls.specs.declared.Sent.{Sent}
 use Rattle.host_calls.specs.declared.Closed.{Closed}
 

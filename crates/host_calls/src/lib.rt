@@ -1,15 +1,15 @@
 // The host's calls that write, and disconnect (01, "Host"): each takes the session and answers with
 // the session after it.
 use codec::encode_record;
-use host::host::HostSession;
-use host::host::HostState;
+use host::HostSession;
+use host::HostState;
 use next_record::encode_data;
-use protocol::outer::Written;
+use protocol::Written;
 use session_checks::stopped;
 use types::RecordType;
 use wire::Epoch;
+use wire::Refusal;
 use wire::Sequence;
-use wire::refusal::Refusal;
 ghost use mathlib.Core.Path.{_≡_};
 ghost use lib.ListN.{replicate};
 ghost use Rattle.protocol.specs.Outer as outer;

@@ -6,7 +6,7 @@ use native.Mathlib.Omega.{arith}
 use lib.Dec.{eqb}
 use borrow.Author.Tests.{eq-eqb, ne-eqb}
 use Rattle.host.specs.State.{code}
-use Rattle.host.specs.declared.host.HostState.{HostState}
+use Rattle.host.specs.declared.HostState.{HostState}
 use Rattle.host_checks.specs.Checks.{allowed}
 
 module _ (t : ℕ) where

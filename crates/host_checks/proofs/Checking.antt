@@ -6,16 +6,16 @@ use mathlib.Core.List.{List, [], _∷_, _++_}
 use lib.Dec.{eqb}
 use borrow.Author.Tests.{le-leb, lt-leb, eq-eqb, ne-eqb, not-true, not-false}
 use Rattle.wire.specs.Refusals.{pick, refusal, none, first}
-use Rattle.wire.specs.declared.refusal.Refusal.{Refusal}
+use Rattle.wire.specs.declared.Refusal.{Refusal}
 use Rattle.wire.proofs.Rows.{Numbered, row-stops, row-passes, no-rows, rows-stop, rows-pass}
 use Rattle.types.specs.Types.{codeOf}
-use Rattle.record.specs.declared.record.Record.{Record}
+use Rattle.record.specs.declared.Record.{Record}
 use Rattle.session.specs.Checks.{identityOf, identityOk, nextSequence, identityRow, nextRow, sequenceRow, instanceRow, epochRow}
-use Rattle.session.specs.declared.session.Identity.{Identity}
-use Rattle.session.specs.declared.session.NextSequence.{NextSequence}
+use Rattle.session.specs.declared.Identity.{Identity}
+use Rattle.session.specs.declared.NextSequence.{NextSequence}
 use Rattle.session.proofs.Cases.{next-refusal}
-use Rattle.host.specs.declared.host.HostState.{HostState}
-use Rattle.host.specs.declared.host.HostSession.{HostSession}
+use Rattle.host.specs.declared.HostState.{HostState}
+use Rattle.host.specs.declared.HostSession.{HostSession}
 use Rattle.host_checks.specs.Checks.{allowed, staleRow, typeRows, orderRows, recordRows}
 
 -- ---- what stops a record by its type and sequence

@@ -4,14 +4,14 @@ use mathlib.Core.Bool.{Bool, not, _&&_, _||_}
 use mathlib.Core.List.{List, [], _∷_, _++_}
 use lib.Dec.{eqb, leb}
 use Rattle.wire.specs.Refusals.{pick, refusal}
-use Rattle.wire.specs.declared.refusal.Refusal.{Refusal}
+use Rattle.wire.specs.declared.Refusal.{Refusal}
 use Rattle.types.specs.Types.{codeOf}
-use Rattle.record.specs.declared.record.Record.{Record}
+use Rattle.record.specs.declared.Record.{Record}
 use Rattle.session.specs.Checks.{identityRow, nextRow, sequenceRow, instanceRow, epochRow}
-use Rattle.session.specs.declared.session.Identity.{Identity}
+use Rattle.session.specs.declared.Identity.{Identity}
 use Rattle.host.specs.State.{isAttaching, isAttached}
-use Rattle.host.specs.declared.host.HostState.{HostState}
-use Rattle.host.specs.declared.host.HostSession.{HostSession}
+use Rattle.host.specs.declared.HostState.{HostState}
+use Rattle.host.specs.declared.HostSession.{HostSession}
 
 -- Wait, Ready, Error when Attaching; Data, Reset when Attached
 abbrev pub allowed : HostState → ℕ → Bool

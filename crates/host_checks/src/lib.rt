@@ -1,17 +1,17 @@
 // What stops a whole record at a host (01, "receive"), in 01's order.
-use host::host::HostSession;
-use host::host::HostState;
-use record::record::Record;
-use session::session::Identity;
-use session::session::identity_in;
-use session::session::is_identity;
-use session::session::next_sequence;
+use host::HostSession;
+use host::HostState;
+use record::Record;
+use session::Identity;
+use session::identity_in;
+use session::is_identity;
+use session::next_sequence;
 use session_checks::check_identity;
 use session_checks::check_instance;
 use session_checks::check_sequence;
 use types::RecordType;
+use wire::Refusal;
 use wire::Sequence;
-use wire::refusal::Refusal;
 ghost use mathlib.Core.Path.{_≡_};
 ghost use mathlib.Core.Bool.{_||_};
 ghost use mathlib.Core.List.{[], _∷_};

@@ -1,12 +1,12 @@
 // The entry that changes the caller's host session (01, "thin entries for receive and credit change
 // the caller's session"). It passes a copy of the session to the operation by value and stores the
 // session of its answer back.
-use host::host::HostSession;
+use host::HostSession;
 use host_receive::HostEvent;
 use host_receive::receive;
-use parser::parser::Place;
-use session::session::Identity;
-use wire::refusal::Refusal;
+use parser::Place;
+use session::Identity;
+use wire::Refusal;
 ghost use mathlib.Core.Path.{_≡_};
 ghost use Rattle.host_receive.specs.Receive.{receiveOf};
 ghost use Rattle.host_entry.specs.Answers.{receiveAnswer};

@@ -1,6 +1,6 @@
 // `receive_in` of host_entry on a session that is passed and answered by value, for callers that hold
 // the session themselves.
-use host::host::HostSession;
+use host::HostSession;
 use host_entry::receive_in;
 use host_receive::Received;
 ghost use mathlib.Core.Path.{_≡_};

@@ -10,29 +10,29 @@ use lib.ListN.{length}
 use lib.Dec.{eqb, leb, ltb}
 use borrow.Author.Tests.{le-leb, lt-leb, eq-eqb, ne-eqb, ltb-true, not-true, not-false, eqb-true}
 use Rattle.wire.specs.Refusals.{pick, refusal, none, first, passes}
-use Rattle.wire.specs.declared.refusal.Refusal.{Refusal}
+use Rattle.wire.specs.declared.Refusal.{Refusal}
 use Rattle.wire.proofs.Rows.{passed, pass-all, row-stops, row-passes, and-left, and-right}
 use Rattle.types.specs.Types.{codeOf}
 use Rattle.types.specs.declared.RecordType.{RecordType}
 use Rattle.types.specs.declared.RecordType.the-variants as Kind
 use Rattle.parser.specs.Push.{Push, push, pushStage, heldIn, pushOf, soundParser}
 use Rattle.parser.specs.Push as pushing
-use Rattle.parser.specs.declared.parser.RecordParser.{RecordParser}
-use Rattle.parser.specs.declared.parser.Place.the-variants.{Piece}
-use Rattle.parser.specs.declared.parser.Pushed.{Pushed}
+use Rattle.parser.specs.declared.RecordParser.{RecordParser}
+use Rattle.parser.specs.declared.Place.the-variants.{Piece}
+use Rattle.parser.specs.declared.Pushed.{Pushed}
 use Rattle.session.specs.Checks.{noIdentity, identityOf, lastSequence}
-use Rattle.session.specs.declared.session.Identity.{Identity}
-use Rattle.session.specs.declared.session.OptionalIdentity.{OptionalIdentity}
+use Rattle.session.specs.declared.Identity.{Identity}
+use Rattle.session.specs.declared.OptionalIdentity.{OptionalIdentity}
 use Rattle.host.specs.State.{code, isOpen, soundHost, withState, nextHost}
 use Rattle.host.proofs.Soundness.{sound-inside}
 use Rattle.host_checks.specs.Checks.{recordRows}
 use Rattle.host_checks.proofs.Checking.{type-numbered}
 use Rattle.host_receive.specs.Receive.{Receive, told, answered, refused, reports, effect, accept, afterPush, receiveRows, receive, receiveStage, Outcome, outcome, receiveOf}
-use Rattle.host.specs.declared.host.HostState.{HostState}
-use Rattle.host.specs.declared.host.HostState.the-variants as State
+use Rattle.host.specs.declared.HostState.{HostState}
+use Rattle.host.specs.declared.HostState.the-variants as State
 use Rattle.host_receive.specs.declared.HostEvent.{HostEvent}
 use Rattle.host_receive.specs.declared.HostEvent.the-variants as Event
-use Rattle.host.specs.declared.host.HostSession.{HostSession}
+use Rattle.host.specs.declared.HostSession.{HostSession}
 use Rattle.host_receive.specs.declared.Received.{Received}
 
 -- ---- answers

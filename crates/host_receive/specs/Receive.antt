@@ -7,24 +7,24 @@ use lib.ListN.{length}
 use lib.Dec.{leb}
 use Rattle.wire.specs.Refusals.{pick, refusal, none, first, passes}
 use Rattle.protocol.specs.Outer.{maxPayload}
-use Rattle.wire.specs.declared.refusal.Refusal.{Refusal}
+use Rattle.wire.specs.declared.Refusal.{Refusal}
 use Rattle.types.specs.declared.RecordType.{RecordType}
 use Rattle.types.specs.declared.RecordType.the-variants as Kind
-use Rattle.record.specs.declared.record.Record.{Record}
+use Rattle.record.specs.declared.Record.{Record}
 use Rattle.parser.specs.Push.{Push, push, pushStage, heldIn}
-use Rattle.parser.specs.declared.parser.Place.{Place}
-use Rattle.parser.specs.declared.parser.Place.the-variants.{Piece}
-use Rattle.parser.specs.declared.parser.Pushed.{Pushed}
+use Rattle.parser.specs.declared.Place.{Place}
+use Rattle.parser.specs.declared.Place.the-variants.{Piece}
+use Rattle.parser.specs.declared.Pushed.{Pushed}
 use Rattle.session.specs.Checks.{noIdentity, identityOf}
-use Rattle.session.specs.declared.session.Identity.{Identity}
-use Rattle.session.specs.declared.session.OptionalIdentity.{OptionalIdentity}
+use Rattle.session.specs.declared.Identity.{Identity}
+use Rattle.session.specs.declared.OptionalIdentity.{OptionalIdentity}
 use Rattle.host.specs.State.{isOpen, soundHost, withState, nextHost}
-use Rattle.host.specs.declared.host.HostState.{HostState}
-use Rattle.host.specs.declared.host.HostState.the-variants as State
+use Rattle.host.specs.declared.HostState.{HostState}
+use Rattle.host.specs.declared.HostState.the-variants as State
 use Rattle.host_checks.specs.Checks.{recordRows}
 use Rattle.host_receive.specs.declared.HostEvent.{HostEvent}
 use Rattle.host_receive.specs.declared.HostEvent.the-variants as Event
-use Rattle.host.specs.declared.host.HostSession.{HostSession}
+use Rattle.host.specs.declared.HostSession.{HostSession}
 use Rattle.host_receive.specs.declared.Received.{Received}
 
 -- ---- the answers

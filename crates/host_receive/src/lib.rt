@@ -1,31 +1,33 @@
 // The host's receive (01, "receive"): it takes the session and answers with the session after it.
+// `payload` has the bytes of DATA that a receive handed out; it is the parser's.
 use copying::copy_at;
-use host::host::HostSession;
-use host::host::HostState;
+use host::HostSession;
+use host::HostState;
 use host_checks::check_record;
-use parser::parser::Place;
-use parser::parser::Pushed;
-use parser::parser::RecordParser;
+use parser::Place;
+use parser::Pushed;
+use parser::RecordParser;
+pub use parser::payload;
 use parser_push::push;
-use protocol::outer::OUTER_HEADER_LEN;
-use protocol::outer::OUTER_MAX_PAYLOAD;
-use session::session::Identity;
-use session::session::OptionalIdentity;
-use session::session::identity_in;
-use session::session::no_identity;
+use protocol::OUTER_HEADER_LEN;
+use protocol::OUTER_MAX_PAYLOAD;
+use session::Identity;
+use session::OptionalIdentity;
+use session::identity_in;
+use session::no_identity;
 use types::RecordType;
+use wire::Refusal;
 use wire::Sequence;
-use wire::refusal::Refusal;
 ghost use mathlib.Core.Path.{_≡_};
 ghost use mathlib.Core.Bool.{_&&_};
 ghost use Prim.Native.Nat.{_<_, _+_, _^_};
 ghost use lib.Dec.{leb};
 ghost use Rattle.wire.specs.Refusals.{refusal};
 ghost use Rattle.types.specs.declared.RecordType.the-variants as Kind;
-ghost use Rattle.parser.specs.Push.{payloadAt, waiting};
+ghost use Rattle.parser.specs.Push.{waiting};
 ghost use Rattle.session.specs.Checks.{lastSequence};
 ghost use Rattle.host.specs.State.{withState, nextHost};
-ghost use Rattle.host.specs.declared.host.HostState.the-variants as State;
+ghost use Rattle.host.specs.declared.HostState.the-variants as State;
 ghost use Rattle.host_receive.specs.Receive.{told, refused, reports, effect, accept, afterPush, outcome, receiveOf};
 
 // What a receive reports. The identity of READY and RESET stands beside it in the answer; the bytes
@@ -321,11 +323,4 @@ pub fn receive(session: HostSession, piece: &[u8], stage: &mut [u8]) -> Received
     }
     let pushed = push(session.parser, piece, stage);
     after_push(session, pushed)
-}
-
-// The bytes of DATA that a receive handed out, as a part of the piece or of the stage.
-pub fn payload<'a>(piece: &'a [u8], stage: &'a [u8], place: Place, length: usize) -> &'a [u8]
-    ensures { λ r. ⌜ now r ≡ payloadAt place length (now (piece .entry)) (now (stage .entry)) ⌝ }
-{
-    parser::parser::payload(piece, stage, place, length)
 }

@@ -7,11 +7,11 @@ use native.Mathlib.Omega.{arith}
 use lib.ListN.{length, drop, length-drop, length-take}
 use lib.Dec.{leb, ltb}
 use Rattle.wire.specs.Refusals.{refusal, first, passes}
-use Rattle.wire.specs.declared.refusal.Refusal.{Refusal}
+use Rattle.wire.specs.declared.Refusal.{Refusal}
 use Rattle.wire.proofs.Rows.{picked}
 use Rattle.reach.specs.Reach.{limit}
 use Rattle.listing.specs.Steps.{readOf, soundListing, Outcome, stepOf, lines, listRows, readable, listOf}
-use Rattle.listing.specs.declared.listing.Listing.{Listing}
+use Rattle.listing.specs.declared.Listing.{Listing}
 use Rattle.listing.proofs.Cases.{facts, Stepped, stepped}
 
 abbrev Within : List ℕ → Outcome → Type 0

@@ -10,14 +10,14 @@ use borrow.Author.Tests.{le-leb, leb-true, eq-eqb, ne-eqb, not-true, not-false}
 use Rattle.wire.specs.Bytes.{overlay}
 use Rattle.wire.specs.Refusals.{pick, refusal, none, passes}
 use Rattle.protocol.specs.Outer.{valueOf}
-use Rattle.wire.specs.declared.refusal.Refusal.{Refusal}
+use Rattle.wire.specs.declared.Refusal.{Refusal}
 use Rattle.wire.proofs.Rows.{picked, and-left, and-right}
 use Rattle.types.specs.Types.{codeOf}
 use Rattle.parser.specs.Push as parser
 use Rattle.parser.specs.Push.{soundParser, pushOf, push, heldIn, bufferedOf, counted, payloadAt}
-use Rattle.parser.specs.declared.parser.Count.{Count}
-use Rattle.parser.specs.declared.parser.Pushed.{Pushed}
-use Rattle.parser.specs.declared.parser.RecordParser.{RecordParser}
+use Rattle.parser.specs.declared.Count.{Count}
+use Rattle.parser.specs.declared.Pushed.{Pushed}
+use Rattle.parser.specs.declared.RecordParser.{RecordParser}
 use Rattle.decimal.specs.Decimal.{Placed, placed}
 use Rattle.lines.specs.Lines.{line, putText}
 use Rattle.lines.proofs.Texts.{text-puts}
@@ -26,8 +26,8 @@ use Rattle.reach.proofs.Sums.{adds-low}
 use Rattle.listing.specs.Listing.{openAfter}
 use Rattle.settle.specs.Settled.{settled, isSettled}
 use Rattle.listing.specs.Steps.{listingOf, readOf, soundListing, listed, Outcome, outcome, opens, lineOf, recordListed, pushed, stepOf}
-use Rattle.listing.specs.declared.listing.Listing.{Listing}
-use Rattle.listing.specs.declared.listing.Listed.{Listed}
+use Rattle.listing.specs.declared.Listing.{Listing}
+use Rattle.listing.specs.declared.Listed.{Listed}
 use Rattle.listing.proofs.Kept.{keeps}
 use Rattle.listing.proofs.Counts.{Came, came}
 use Rattle.settle.proofs.Settled.{settled-number, settled-sound, settled-held, settles}

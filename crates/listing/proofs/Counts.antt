@@ -12,16 +12,16 @@ use borrow.Author.Tests.{ltb-true, ltb-false, eqb-true, le-leb, ne-eqb}
 use Rattle.wire.specs.Bytes.{overlay}
 use Rattle.wire.specs.Refusals.{pick, none, first, passes}
 use Rattle.wire.specs.Header.{typeOf, lengthOf}
-use Rattle.wire.specs.declared.refusal.Refusal.{Refusal}
+use Rattle.wire.specs.declared.Refusal.{Refusal}
 use Rattle.wire.proofs.Rows.{passed, pass-all, picked, and-left, and-right}
 use Rattle.protocol.specs.Outer.{valueOf, windowOk, creditOk}
 use Rattle.types.specs.Types.{codeOf, lengthOk}
 use Rattle.record.specs.Record.{headerRows, headerChecks, payloadRows, payloadChecks, recordWith, recordOf}
 use Rattle.parser.specs.Push.{countsOk, errorOk, soundParser, Push, failed, finish, bodyTaken, pushBody, headTaken, headWith, pushHead, pushRows, push, bufferedOf}
-use Rattle.parser.specs.declared.parser.RecordParser.{RecordParser}
-use Rattle.parser.specs.declared.parser.Place.{Place}
-use Rattle.parser.specs.declared.parser.Place.the-variants.{Piece, Stage}
-use Rattle.parser.specs.declared.parser.Pushed.{Pushed}
+use Rattle.parser.specs.declared.RecordParser.{RecordParser}
+use Rattle.parser.specs.declared.Place.{Place}
+use Rattle.parser.specs.declared.Place.the-variants.{Piece, Stage}
+use Rattle.parser.specs.declared.Pushed.{Pushed}
 use Rattle.parts.proofs.Parts.{overlay-nothing}
 use Rattle.parser.proofs.Cases.{type-code}
 use Rattle.reach.specs.Reach.{refusedBytes}

@@ -11,7 +11,7 @@ use borrow.Author.Tests.{le-leb, lt-leb, lt-ltb, le-ltb, eq-eqb, ne-eqb, not-tru
 use Rattle.wire.specs.Refusals.{pick, refusal, none, first, passes}
 use Rattle.protocol.specs.Outer.{write}
 use Rattle.protocol.specs.Outer as outer
-use Rattle.wire.specs.declared.refusal.Refusal.{Refusal}
+use Rattle.wire.specs.declared.Refusal.{Refusal}
 use Rattle.wire.proofs.Rows.{pass-all, row-stops, row-passes}
 use Rattle.parser.specs.Push.{bufferedOf}
 use Rattle.parts.proofs.Parts.{part-end, take-min}
@@ -20,8 +20,8 @@ use Rattle.lines.specs.Lines.{names, ending, putText}
 use Rattle.lines.proofs.Texts.{text-puts}
 use Rattle.reach.specs.Reach.{limit}
 use Rattle.listing.specs.Steps.{readOf, soundListing, listed, Outcome, outcome, stepOf, further, lines, soundRow, roomRow, listRows, readable, listOf, namesOf, endLine, endOf}
-use Rattle.listing.specs.declared.listing.Listing.{Listing}
-use Rattle.listing.specs.declared.listing.Listed.{Listed}
+use Rattle.listing.specs.declared.Listing.{Listing}
+use Rattle.listing.specs.declared.Listed.{Listed}
 use Rattle.listing.proofs.Cases.{Stepped, stepped}
 
 -- ---- one turn of the rule

@@ -8,7 +8,7 @@ use Rattle.wire.specs.Refusals.{passes}
 use Rattle.reach.specs.Reach.{limit}
 use Rattle.lines.specs.Lines.{lineRoom}
 use Rattle.listing.specs.Steps.{Outcome, readOf, listOf}
-use Rattle.listing.specs.declared.listing.Listing.{Listing}
+use Rattle.listing.specs.declared.Listing.{Listing}
 
 -- what a call has written
 abbrev pub written : Outcome → List ℕ

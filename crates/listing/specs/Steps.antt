@@ -8,19 +8,19 @@ use Rattle.wire.specs.Bytes.{overlay}
 use Rattle.wire.specs.Refusals.{pick, refusal, none, first, passes}
 use Rattle.protocol.specs.Outer as outer
 use Rattle.protocol.specs.Outer.{maxPayload, write}
-use Rattle.wire.specs.declared.refusal.Refusal.{Refusal}
+use Rattle.wire.specs.declared.Refusal.{Refusal}
 use Rattle.types.specs.Types.{codeOf}
-use Rattle.record.specs.declared.record.Record.{Record}
+use Rattle.record.specs.declared.Record.{Record}
 use Rattle.parser.specs.Push as parser
 use Rattle.parser.specs.Push.{soundParser, pushOf, bufferedOf, payloadAt}
-use Rattle.parser.specs.declared.parser.RecordParser.{RecordParser}
-use Rattle.parser.specs.declared.parser.Pushed.{Pushed}
+use Rattle.parser.specs.declared.RecordParser.{RecordParser}
+use Rattle.parser.specs.declared.Pushed.{Pushed}
 use Rattle.reach.specs.Reach.{limit, addsUp, refusedBytes}
 use Rattle.settle.specs.Settled.{settled, isSettled}
 use Rattle.lines.specs.Lines.{lineRoom, names, line, ending}
 use Rattle.listing.specs.Listing.{openAfter}
-use Rattle.listing.specs.declared.listing.Listing.{Listing}
-use Rattle.listing.specs.declared.listing.Listed.{Listed}
+use Rattle.listing.specs.declared.Listing.{Listing}
+use Rattle.listing.specs.declared.Listed.{Listed}
 
 abbrev pub listingOf : RecordParser → ℕ → ℕ → Listing
 listingOf p offset o = record { parser = p; offset = offset; «open» = o }

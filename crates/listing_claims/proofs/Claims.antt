@@ -1,7 +1,7 @@
 -- The claims of `specs/Claims.antt`. At the start what is still to be written is the listing without its names; where nothing more is
 -- read it is the last line; and calls in between write what is missing (`calls-write`). Assumes nothing.
 use Prim.Native.Nat.{ℕ, zero, suc, _+_, _-_, _≤_, _<_, min}
-use mathlib.Core.Path.{_≡_, refl, sym, ap, ap₂, subst, _∙_}
+use mathlib.Core.Path.{_≡_, refl, sym, ap, subst, _∙_}
 use mathlib.Core.Bool.{Bool, true, false, _&&_}
 use mathlib.Core.List.{List, [], _∷_, _++_, append-nil}
 use native.Mathlib.Omega.{arith}
@@ -17,18 +17,18 @@ use Rattle.types.specs.Types.{lengthOk, typeAt}
 use Rattle.record.specs.Record.{allZero, headerChecks, payloadChecks}
 use Rattle.decimal.specs.Decimal.{number, decimal, decimalIn}
 use Rattle.protocol.specs.Outer as outer
-use Rattle.wire.specs.declared.refusal.Refusal.{Refusal}
+use Rattle.wire.specs.declared.Refusal.{Refusal}
 use Rattle.wire.proofs.Rows.{picked, pass-all}
 use Rattle.parser.specs.Push.{bufferedOf, heldIn}
 use Rattle.claims.proofs.Outcomes.{true-not-false, ready-scan}
 use Rattle.claims.proofs.Feeds.{bytesIn}
 use Rattle.claims.proofs.Latch.{again}
 use Rattle.lines.specs.Lines.{names, line, ending, lineRoom}
-use Rattle.reach.specs.Reach.{limit, addsUp, refusedBytes}
+use Rattle.reach.specs.Reach.{limit}
 use Rattle.listing.specs.Listing.{openAfter, listFrom, linesFrom, listing}
 use Rattle.listing.specs.Steps.{fresh, readOf, soundListing, listed, Outcome, outcome, stepOf, soundRow, roomRow, lines, listRows, readable, listOf, namesOf, endLine, endOf}
 use Rattle.listing.specs.Calls.{Ended, all-taken, refused, full}
-use Rattle.listing.specs.declared.listing.Listing.{Listing}
+use Rattle.listing.specs.declared.Listing.{Listing}
 use Rattle.listing.proofs.Cases.{facts, Stepped, stepped}
 use Rattle.listing_claims.specs.Claims.{joined, text, OutputIsListing, NeverUnsound, TakesSome, ReadingEnds, ListingClaims}
 use Rattle.listing_claims.specs.Example.{capture, printed}

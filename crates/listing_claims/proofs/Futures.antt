@@ -13,14 +13,14 @@ use borrow.Author.Tests.{eqb-true}
 use Rattle.wire.specs.Bytes.{overlay}
 use Rattle.wire.specs.Refusals.{pick, passes}
 use Rattle.wire.specs.Header.{typeOf, epochOf, sequenceOf, lengthOf}
-use Rattle.wire.specs.declared.refusal.Refusal.{Refusal}
+use Rattle.wire.specs.declared.Refusal.{Refusal}
 use Rattle.wire.proofs.Rows.{picked}
 use Rattle.types.specs.Types.{codeOf}
 use Rattle.record.specs.Record.{recordWith}
-use Rattle.record.specs.declared.record.Record.{Record}
+use Rattle.record.specs.declared.Record.{Record}
 use Rattle.parser.specs.Push.{soundParser, Push, push, headWith, pushStage, pushOf, heldIn, bufferedOf, payloadAt}
-use Rattle.parser.specs.declared.parser.RecordParser.{RecordParser}
-use Rattle.parser.specs.declared.parser.Pushed.{Pushed}
+use Rattle.parser.specs.declared.RecordParser.{RecordParser}
+use Rattle.parser.specs.declared.Pushed.{Pushed}
 use Rattle.parser.proofs.Cases.{sound-empty}
 use Rattle.parts.proofs.Parts.{overlay-nothing}
 use Rattle.claims.specs.Reading.{Ready}
@@ -37,7 +37,7 @@ use Rattle.reach.specs.Reach.{limit}
 use Rattle.listing.specs.Listing.{openAfter, linesFrom}
 use Rattle.settle.specs.Settled.{settled}
 use Rattle.listing.specs.Steps.{listingOf, readOf, soundListing, listed, Outcome, outcome, opens, lineOf, recordListed, pushed, stepOf}
-use Rattle.listing.specs.declared.listing.Listing.{Listing}
+use Rattle.listing.specs.declared.Listing.{Listing}
 use Rattle.listing.proofs.Counts.{came}
 use Rattle.settle.proofs.Settled.{settled-number, settled-sound}
 use Rattle.listing.proofs.Cases.{facts, Stepped, stepped}

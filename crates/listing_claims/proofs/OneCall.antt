@@ -9,15 +9,15 @@ use lib.ListN.{length, take, drop, length-append, length-take}
 use lib.Seq.{take-all, drop-length}
 use borrow.Author.Tests.{le-leb}
 use Rattle.wire.specs.Refusals.{pick, none, first, passes}
-use Rattle.wire.specs.declared.refusal.Refusal.{Refusal}
+use Rattle.wire.specs.declared.Refusal.{Refusal}
 use Rattle.wire.proofs.Rows.{pass-all}
 use Rattle.types.specs.Types.{codeOf}
 use Rattle.record.specs.Record.{recordOf}
-use Rattle.record.specs.declared.record.Record.{Record}
+use Rattle.record.specs.declared.Record.{Record}
 use Rattle.parser.specs.Push as parser
 use Rattle.parser.specs.Push.{parserOf, Push, waiting, push, headWith, pushStage, heldIn, bufferedOf}
-use Rattle.parser.specs.declared.parser.RecordParser.{RecordParser}
-use Rattle.parser.specs.declared.parser.Pushed.{Pushed}
+use Rattle.parser.specs.declared.RecordParser.{RecordParser}
+use Rattle.parser.specs.declared.Pushed.{Pushed}
 use Rattle.claims.proofs.Scans.{Scan, whole, refused, scan}
 use Rattle.claims.proofs.Outcomes.{Completed, Refused, Matches}
 use Rattle.claims.proofs.Feeds.{Placed, bytesIn, matches}
@@ -27,7 +27,7 @@ use Rattle.listing.specs.Listing.{openAfter}
 use Rattle.settle.specs.Settled.{idle, settled}
 use Rattle.listing.specs.Steps.{listingOf, readOf, listed, Outcome, outcome, recordListed, stepOf, lines, listRows, readable, listOf}
 use Rattle.listing.specs.Calls.{Calls, stop, call}
-use Rattle.listing.specs.declared.listing.Listing.{Listing}
+use Rattle.listing.specs.declared.Listing.{Listing}
 use Rattle.listing.proofs.Lines.{lines-end, lines-step}
 use Rattle.listing_claims.proofs.Futures.{Good, Writes, writes, step-is, payload-is}
 

@@ -14,7 +14,7 @@ use borrow.Author.Tests.{le-leb, leb-true, eq-eqb, ne-eqb, eqb-true, lt-ltb, le-
 use Rattle.wire.specs.Bytes.{fromLe, toLe, overlay, Octets, end, octet}
 use Rattle.wire.specs.Refusals.{pick, refusal, none, first, passes}
 use Rattle.wire.specs.Header.{magicOf, versionOf, typeOf, flagsOf, instanceOf, epochOf, sequenceOf, lengthOf, headerBytes}
-use Rattle.wire.specs.declared.refusal.Refusal.{Refusal}
+use Rattle.wire.specs.declared.Refusal.{Refusal}
 use Rattle.wire.proofs.Rows.{pass-all, picked, and-left, and-right}
 use Rattle.wire.proofs.Numbers.{from-to, length-to}
 use Rattle.protocol.specs.Outer.{maxPayload, valueOf, windowOk, creditOk}
@@ -24,8 +24,8 @@ use Rattle.types.specs.declared.RecordType.the-variants.{HostAttach, Reset, Ack
 use Rattle.record.specs.Record.{allZero, headerChecks, payloadChecks, recordRows, recordBytes}
 use Rattle.parser.specs.Push as parser
 use Rattle.parser.specs.Push.{parserOf, countsOk, errorOk, soundParser, Push, stopped, waiting, failed, finish, bodyTaken, pushBody, headTaken, headWith, pushHead, pushRows, push, heldIn, bufferedOf}
-use Rattle.parser.specs.declared.parser.RecordParser.{RecordParser}
-use Rattle.parser.specs.declared.parser.Place.the-variants.{Piece}
+use Rattle.parser.specs.declared.RecordParser.{RecordParser}
+use Rattle.parser.specs.declared.Place.the-variants.{Piece}
 use Rattle.parser.proofs.Cases.{held-counts, filling-counts}
 use Rattle.claims.specs.Reading.{recordFrom}
 use Rattle.claims.proofs.Octets.{octets-take, octets-append, octets-zeros}
@@ -40,7 +40,7 @@ use Rattle.settle.specs.Settled.{idle, settled, numberOnly, isSettled}
 use Rattle.listing.specs.Steps.{listingOf, fresh, soundListing, listOf, Outcome}
 use Rattle.listing.specs.Calls as calls
 use Rattle.listing.specs.Calls.{Calls, stop, call, written, all-taken}
-use Rattle.listing.specs.declared.listing.Listing.{Listing}
+use Rattle.listing.specs.declared.Listing.{Listing}
 use Rattle.settle.proofs.Settled.{keeps-all}
 use Rattle.listing.proofs.Cases.{facts}
 use Rattle.reach.proofs.Sums.{Rest, nothing, plain, attach, many, value, Sum, sum-of, refused-0}

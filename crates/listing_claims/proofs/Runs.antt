@@ -11,7 +11,7 @@ use lib.Dec.{leb, ltb}
 use borrow.Author.Tests.{leb-true}
 use Rattle.wire.specs.Refusals.{pick, refusal, none, first, passes}
 use Rattle.protocol.specs.Outer.{maxPayload}
-use Rattle.wire.specs.declared.refusal.Refusal.{Refusal}
+use Rattle.wire.specs.declared.Refusal.{Refusal}
 use Rattle.wire.proofs.Rows.{picked, and-right}
 use Rattle.claims.proofs.Outcomes.{true-not-false}
 use Rattle.decimal.specs.Decimal.{Puts}
@@ -20,7 +20,7 @@ use Rattle.lines.specs.Lines.{lineRoom}
 use Rattle.reach.specs.Reach.{limit}
 use Rattle.listing.specs.Steps.{readOf, soundListing, listed, Outcome, stepOf, lines, listRows, readable, listOf}
 use Rattle.listing.specs.Calls.{Calls, stop, call, written}
-use Rattle.listing.specs.declared.listing.Listing.{Listing}
+use Rattle.listing.specs.declared.Listing.{Listing}
 use Rattle.listing.proofs.Cases.{facts, Stepped, stepped}
 use Rattle.listing.proofs.Bounds.{lines-within}
 use Rattle.listing_claims.specs.Claims.{joined}

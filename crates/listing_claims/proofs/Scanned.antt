@@ -12,7 +12,7 @@ use lib.Dec.{ltb}
 use borrow.Author.Tests.{le-ltb}
 use Rattle.wire.specs.Refusals.{pick, passes}
 use Rattle.wire.specs.Header.{typeOf, epochOf, sequenceOf, lengthOf}
-use Rattle.wire.specs.declared.refusal.Refusal.{Refusal}
+use Rattle.wire.specs.declared.Refusal.{Refusal}
 use Rattle.record.specs.Record.{headerChecks, payloadChecks}
 use Rattle.claims.proofs.Scans.{Scan, unfinished, whole, refused, scan, scanValue, scanBody, scanHeader, scan-short, scan-cut, scan-append}
 use Rattle.lines.specs.Lines.{line, ending}

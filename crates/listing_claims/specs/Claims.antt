@@ -13,7 +13,7 @@ use Rattle.reach.specs.Reach.{limit, refusedBytes}
 use Rattle.listing.specs.Listing.{listing}
 use Rattle.listing.specs.Steps.{fresh, readOf, soundListing, listOf, namesOf, endOf}
 use Rattle.listing.specs.Calls.{Calls, Ended}
-use Rattle.listing.specs.declared.listing.Listing.{Listing}
+use Rattle.listing.specs.declared.Listing.{Listing}
 use Rattle.listing_claims.specs.Example.{capture, printed}
 
 -- texts one after the other

@@ -1,17 +1,17 @@
 // The link listing (01) made a piece at a time: the lines of the records that a piece completes.
 use lines::LINE;
 use lines::put_line;
-use listing::listing::Listed;
-use listing::listing::Listing;
-use parser::parser::Pushed;
-use parser::parser::payload;
+use listing::Listed;
+use listing::Listing;
+use parser::Pushed;
+use parser::payload;
 use parser_push::push;
 use payloads::value;
-use protocol::outer::OUTER_MAX_PAYLOAD;
+use protocol::OUTER_MAX_PAYLOAD;
 use reach::LIMIT;
-use record::record::Record;
+use record::Record;
 use settle::settle;
-use wire::refusal::Refusal;
+use wire::Refusal;
 ghost use mathlib.Core.Path.{_≡_};
 ghost use mathlib.Core.Bool.{true};
 ghost use Prim.Native.Nat.{_+_, _-_, _^_, _≤_, _<_, min};

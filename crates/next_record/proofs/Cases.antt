@@ -8,16 +8,16 @@ use lib.ListN.{length, take, drop}
 use lib.Dec.{ltb}
 use borrow.Author.Tests.{ne-eqb, eqb-false}
 use Rattle.wire.specs.Bytes.{overlay}
-use Rattle.wire.specs.Refusals.{pick, refusal, none, first, passes}
+use Rattle.wire.specs.Refusals.{refusal, none, first, passes}
 use Rattle.protocol.specs.Outer as outer
-use Rattle.wire.specs.declared.refusal.Refusal.{Refusal}
-use Rattle.protocol.specs.declared.outer.Written.{Written}
+use Rattle.wire.specs.declared.Refusal.{Refusal}
+use Rattle.protocol.specs.declared.Written.{Written}
 use Rattle.wire.proofs.Rows.{picked, row-stops, row-passes}
 use Rattle.protocol.proofs.Writes.{write-stops, write-done}
 use Rattle.record.specs.Record.{encodeRows, encodeRecord}
 use Rattle.session.specs.Checks.{lastSequence, nextSequence}
-use Rattle.session.specs.declared.session.Identity.{Identity}
-use Rattle.session.specs.declared.session.NextSequence.{NextSequence}
+use Rattle.session.specs.declared.Identity.{Identity}
+use Rattle.session.specs.declared.NextSequence.{NextSequence}
 use Rattle.next_record.specs.Writes.{Outcome, outcome, nextRows, notEncoded, identityBytes, encodeNext, encodeData}
 use Rattle.next_record.specs.declared.Encoded.{Encoded}
 

@@ -6,10 +6,10 @@ use lib.ListN.{length, take}
 use Rattle.wire.specs.Bytes.{overlay}
 use Rattle.wire.specs.Refusals.{pick, refusal, none, first, passes}
 use Rattle.protocol.specs.Outer.{maxPayload, roomRow}
-use Rattle.wire.specs.declared.refusal.Refusal.{Refusal}
+use Rattle.wire.specs.declared.Refusal.{Refusal}
 use Rattle.record.specs.Record.{recordRows, recordBytes}
 use Rattle.session.specs.Checks.{nextRow}
-use Rattle.session.specs.declared.session.Identity.{Identity}
+use Rattle.session.specs.declared.Identity.{Identity}
 use Rattle.next_record.specs.declared.Encoded.{Encoded}
 
 -- what an encoder answers, with the output as it leaves it

@@ -1,12 +1,12 @@
 // The encoders of the next record of a direction, which the two ends of a session share (nvxs/mod.rs).
 use codec::encode_record;
-use protocol::outer::OUTER_MAX_PAYLOAD;
-use session::session::Identity;
-use session::session::next_sequence;
+use protocol::OUTER_MAX_PAYLOAD;
+use session::Identity;
+use session::next_sequence;
 use types::RecordType;
+use wire::Refusal;
 use wire::Sequence;
-use wire::bytes::least;
-use wire::refusal::Refusal;
+use wire::least;
 ghost use mathlib.Core.Path.{_≡_};
 ghost use Rattle.types.specs.Types.{codeOf};
 ghost use Rattle.next_record.specs.Writes.{outcome, notEncoded, encodeNext, encodeData};

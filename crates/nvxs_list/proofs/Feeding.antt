@@ -10,8 +10,8 @@ use Rattle.parts.proofs.Parts.{part-end}
 use Rattle.lines.specs.Lines.{lineRoom}
 use Rattle.listing.specs.Steps.{Outcome, outcome, listOf}
 use Rattle.listing.specs.Calls.{Calls, stop, call, written}
-use Rattle.listing.specs.declared.listing.Listing.{Listing}
-use Rattle.listing.specs.declared.listing.Listed.{Listed}
+use Rattle.listing.specs.declared.Listing.{Listing}
+use Rattle.listing.specs.declared.Listed.{Listed}
 use Rattle.listing.proofs.Bounds.{list-within}
 use Rattle.nvxs_list.specs.Feeding.{Feeds}
 use Rattle.nvxs_list.specs.declared.Fed.{Fed}

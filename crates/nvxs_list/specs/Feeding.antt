@@ -4,7 +4,7 @@ use mathlib.Core.Path.{_≡_}
 use mathlib.Core.Bool.{true}
 use mathlib.Core.List.{List, []}
 use Rattle.listing.specs.Calls.{Calls}
-use Rattle.listing.specs.declared.listing.Listing.{Listing}
+use Rattle.listing.specs.declared.Listing.{Listing}
 use Rattle.nvxs_list.specs.declared.Fed.{Fed}
 
 -- the listing and the stage are those that calls of `list` leave, which were lent the piece's bytes in order; where there is more to

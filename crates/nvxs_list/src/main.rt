@@ -1,6 +1,6 @@
 // Lists the records of a capture: standard input to standard output (01, "The link listing").
-use listing::listing::Listing;
-use listing::listing::names;
+use listing::Listing;
+use listing::names;
 use listing_list::list;
 use reach::LIMIT;
 ghost use mathlib.Core.Path.{_≡_};

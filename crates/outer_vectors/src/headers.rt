@@ -1,7 +1,7 @@
 // decode_outer_header: the fields it reads, and refusals 25 and 26.
 use header_bytes::encode_header;
-use protocol::outer::OuterHeader;
-use protocol::outer::decode_outer_header;
+use protocol::OuterHeader;
+use protocol::decode_outer_header;
 use wire::Epoch;
 use wire::Sequence;
 

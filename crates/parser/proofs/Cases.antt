@@ -1,34 +1,32 @@
 -- The cases of the parser's rules, a law for each `return` of the code: what was tested there, and what is answered. Assumes nothing.
-use Prim.Native.Nat.{ℕ, _+_, _-_, _^_, _≤_, _<_, min}
-use mathlib.Core.Path.{_≡_, refl, sym, ap, ap₂, _∙_}
+use Prim.Native.Nat.{ℕ, _+_, _-_, _≤_, _<_, min}
+use mathlib.Core.Path.{_≡_, refl, sym, ap, _∙_}
 use mathlib.Core.Bool.{Bool, true, false, not, _&&_, _||_, and-false, and-true}
-use mathlib.Core.List.{List, [], _∷_, _++_, append-nil}
+use mathlib.Core.List.{List, [], _++_}
 use native.Mathlib.Omega.{arith}
 use native.Mathlib.Decide.{ℕ-discrete, decLt}
 use native.Mathlib.Nat.{zero-add}
 use lib.Seq.{take-all}
-use lib.ListN.{length, take, drop, length-take, length-drop}
+use lib.ListN.{length, take, drop, length-take}
 use lib.Dec.{eqb, leb, ltb}
-use borrow.Author.Tests.{lt-ltb, le-ltb, le-leb, lt-leb, eq-eqb, ne-eqb, eqb-true, leb-true, ltb-true, not-true, not-false}
+use borrow.Author.Tests.{lt-ltb, le-ltb, le-leb, lt-leb, eq-eqb, ne-eqb, eqb-true, ltb-true, not-true, not-false}
 use Rattle.wire.specs.Bytes.{overlay, copied}
 use Rattle.wire.specs.Refusals.{pick, refusal, none, first, passes}
 use Rattle.wire.specs.Header.{typeOf, lengthOf}
-use Rattle.wire.specs.declared.refusal.Refusal.{Refusal}
-use Rattle.wire.proofs.Overlays.{copied-fits, take-overlay, length-overlay}
-use Rattle.wire.proofs.Rows.{picked, and-left, and-right, passed, pass-all, row-stops, row-passes, no-rows}
-use Rattle.types.specs.Types.{codeOf, typeAt, typeOk, lengthOk}
+use Rattle.wire.specs.declared.Refusal.{Refusal}
+use Rattle.wire.proofs.Overlays.{copied-fits, take-overlay}
+use Rattle.wire.proofs.Rows.{and-left, and-right, passed, pass-all, row-stops, row-passes}
+use Rattle.types.specs.Types.{codeOf, typeAt, typeOk}
 use Rattle.record.specs.Record.{headerRows, headerChecks, payloadChecks, recordWith, recordOf, typeFrom, noRecord}
-use Rattle.types.specs.declared.RecordType.{RecordType}
 use Rattle.types.specs.declared.TypeLookup.{TypeLookup}
 use Rattle.types.specs.declared.TypeLookup.the-variants.{Known, Unknown}
-use Rattle.record.specs.declared.record.Record.{Record}
+use Rattle.record.specs.declared.Record.{Record}
 use Rattle.types.proofs.Cases.{known-code, unknown-code, length-limit}
-use Rattle.parser.specs.declared.parser.RecordParser.{RecordParser}
-use Rattle.parser.specs.declared.parser.Place.{Place}
-use Rattle.parser.specs.declared.parser.Place.the-variants.{Piece, Stage}
-use Rattle.parser.specs.declared.parser.Pushed.{Pushed}
-use Rattle.parser.specs.declared.parser.Count.{Count}
-use Rattle.parser.specs.Push.{parserOf, fresh, countsOk, errorOk, soundParser, clear, Push, stopped, waiting, failed, completed, finish, bodyTaken, pushBody, headTaken, headWith, pushHead, pushRows, push}
+use Rattle.parser.specs.declared.RecordParser.{RecordParser}
+use Rattle.parser.specs.declared.Place.{Place}
+use Rattle.parser.specs.declared.Place.the-variants.{Piece, Stage}
+use Rattle.parser.specs.declared.Pushed.{Pushed}
+use Rattle.parser.specs.Push.{parserOf, countsOk, errorOk, soundParser, clear, stopped, waiting, failed, completed, finish, bodyTaken, pushBody, headTaken, headWith, pushHead, pushRows, push}
 use Rattle.parser.specs.Push.{bodyStage, headStage, pushStage, heldIn, Outcome, outcome, pushOf, payloadAt, neededOf, bufferedOf, counted}
 use Rattle.parts.proofs.Parts.{part-end, overlay-nothing, take-none}
 
@@ -266,10 +264,6 @@ pub choose-second : {A : Type 0} (k : ℕ) (x y z : A) → (k ≡ 0 → ⊥) →
 choose-second k x y z e q = simp (ne-eqb k 0 e) q
 
 pub ruleset choosing = (choose-first, choose-second)
-
--- what the parts that the code takes ask
-pub end-fits : (h : List ℕ) (size : ℕ) (st stage : List ℕ) → passes (headerChecks h) ≡ true → size ≡ lengthOf h → 65536 ≤ length stage → length st ≡ length stage → size ≤ length st
-end-fits h size st stage ok e room q = let low = length-low h ok in omega arith
 
 -- ---- where a payload lies
 pub payload-piece : (place : Place) (at size : ℕ) (piece stage l : List ℕ) → place ≡ Piece at → l ≡ take size (drop at piece) → l ≡ payloadAt place size piece stage

@@ -9,13 +9,13 @@ use Rattle.wire.specs.Bytes.{overlay}
 use Rattle.wire.specs.Refusals.{pick, refusal, none, first, passes}
 use Rattle.wire.specs.Header.{typeOf, lengthOf}
 use Rattle.protocol.specs.Outer.{maxPayload}
-use Rattle.wire.specs.declared.refusal.Refusal.{Refusal}
+use Rattle.wire.specs.declared.Refusal.{Refusal}
 use Rattle.record.specs.Record.{headerChecks, payloadChecks, recordOf, noRecord}
-use Rattle.parser.specs.declared.parser.RecordParser.{RecordParser}
-use Rattle.parser.specs.declared.parser.Place.{Place}
-use Rattle.parser.specs.declared.parser.Place.the-variants.{Piece, Stage}
-use Rattle.parser.specs.declared.parser.Pushed.{Pushed}
-use Rattle.parser.specs.declared.parser.Count.{Count}
+use Rattle.parser.specs.declared.RecordParser.{RecordParser}
+use Rattle.parser.specs.declared.Place.{Place}
+use Rattle.parser.specs.declared.Place.the-variants.{Piece, Stage}
+use Rattle.parser.specs.declared.Pushed.{Pushed}
+use Rattle.parser.specs.declared.Count.{Count}
 
 abbrev pub parserOf : List ℕ → ℕ → ℕ → Refusal → RecordParser
 parserOf h headerLen payloadLen error = record { header = h; «header_len» = headerLen; «payload_len» = payloadLen; error = error }

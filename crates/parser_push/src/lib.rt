@@ -5,22 +5,22 @@ use codec::record_of;
 use copying::copy_at;
 use header_checks::check_header;
 use header_checks::header_ok;
-use parser::parser::Place;
-use parser::parser::Pushed;
-use parser::parser::RecordParser;
+use parser::Place;
+use parser::Pushed;
+use parser::RecordParser;
 use parts::filled;
 use parts::part;
-use protocol::outer::OUTER_HEADER_LEN;
-use protocol::outer::OUTER_MAX_PAYLOAD;
-use record::record::no_record;
-use wire::bytes::least;
-use wire::refusal::Refusal;
+use protocol::OUTER_HEADER_LEN;
+use protocol::OUTER_MAX_PAYLOAD;
+use record::no_record;
+use wire::Refusal;
+use wire::least;
 ghost use mathlib.Core.Path.{_≡_};
-ghost use mathlib.Core.Bool.{Bool, true};
+ghost use mathlib.Core.Bool.{true};
 ghost use lib.Dec.{eqb};
 ghost use Prim.Native.Nat.{_+_, _^_, _≤_, _<_};
 ghost use lib.ListN.{length, take, drop};
-ghost use Rattle.wire.specs.Bytes.{overlay, copied};
+ghost use Rattle.wire.specs.Bytes.{copied};
 ghost use Rattle.wire.specs.Refusals.{pick, passes};
 ghost use Rattle.wire.specs.Header.{lengthOf};
 ghost use Rattle.record.specs.Record.{headerChecks};
@@ -155,13 +155,16 @@ fn payload_step(
 {
     let size = fields::length(&header) as usize;
     let n = least(size - before, rest.len());
-    if before + n < size {
-        copy_at(stage, before, &rest[0..n]);
-        return wait(header, OUTER_HEADER_LEN, before + n, from + n);
+    let taken = &rest[0..n];
+    let end = from + n;
+    let come = before + n;
+    if come < size {
+        copy_at(stage, before, taken);
+        return wait(header, OUTER_HEADER_LEN, come, end);
     }
-    store_last(before, &rest[0..n], stage);
+    store_last(before, taken, stage);
     let place = place_of(before, from);
-    finished(header, whole(before, rest, stage, size), from + n, place)
+    finished(header, whole(before, rest, stage, size), end, place)
 }
 
 // Byte 44 has come: the header checks, and the rest of the piece to the payload step. While a header
@@ -189,8 +192,9 @@ fn header_step(
 {
     let n = least(OUTER_HEADER_LEN - had, piece.len());
     let bytes = filled(header, had, &piece[0..n]);
-    if had + n < OUTER_HEADER_LEN {
-        return wait(bytes, had + n, 0, n);
+    let come = had + n;
+    if come < OUTER_HEADER_LEN {
+        return wait(bytes, come, 0, n);
     }
     checked(bytes, before, &piece[n..], n, stage)
 }

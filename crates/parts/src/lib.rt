@@ -1,6 +1,6 @@
 // Parts of a piece: the header with a part of it, and the part itself.
 use copying::copy_at;
-use wire::bytes::least;
+use wire::least;
 ghost use mathlib.Core.Path.{_≡_};
 ghost use lib.ListN.{take, drop};
 ghost use Rattle.wire.specs.Bytes.{copied};

@@ -6,7 +6,7 @@ use lib.ListN.{length, replicate}
 use lib.Dec.{eqb}
 use Rattle.wire.specs.Bytes.{fromLe, toLe}
 use Rattle.wire.specs.Refusals.{pick, refusal, none, first, passes}
-use Rattle.wire.specs.declared.refusal.Refusal.{Refusal}
+use Rattle.wire.specs.declared.Refusal.{Refusal}
 use Rattle.protocol.specs.Outer.{windowOk, creditOk}
 use Rattle.payloads.specs.declared.EncodedPayload.{EncodedPayload}
 use Rattle.payloads.specs.declared.DecodedPayload.{DecodedPayload}

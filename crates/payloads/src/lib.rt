@@ -1,7 +1,7 @@
 // The payloads of four bytes: the ack and credit pairs of the plain layer (outer.rs), and their limits.
 use numbers::u32_from_le_bytes;
 use numbers::u32_to_le_bytes;
-use wire::refusal::Refusal;
+use wire::Refusal;
 ghost use mathlib.Core.Path.{_≡_};
 ghost use Rattle.protocol.specs.Outer.{windowOk, creditOk, valueOf};
 ghost use Rattle.payloads.specs.Payloads.{acceptedEncoding, refusedEncoding, acceptedDecoding, refusedDecoding, encodeAckPayload, decodeAckPayload, encodeCreditPayload, decodeCreditPayload};

@@ -1,23 +1,23 @@
 -- The cases of the plain layer's rules, a law for each `return` of the code: what was tested there, and what is answered. Assumes nothing.
 use Prim.Native.Nat.{ℕ, _+_, _-_, _≤_, _<_}
-use mathlib.Core.Path.{_≡_, refl, sym, ap, _∙_}
-use mathlib.Core.Bool.{Bool, true, false, not, _&&_}
-use mathlib.Core.List.{List, [], _∷_, _++_}
+use mathlib.Core.Path.{_≡_, sym, ap, _∙_}
+use mathlib.Core.Bool.{Bool, true, false, not}
+use mathlib.Core.List.{List, _++_}
 use native.Mathlib.Omega.{arith}
 use lib.ListN.{length, length-append}
 use lib.Dec.{eqb, leb}
 use borrow.Author.Tests.{le-leb, lt-leb, eq-eqb, ne-eqb, not-true, not-false}
 use Rattle.wire.specs.Bytes.{fromLe, overlay, copied}
-use Rattle.wire.specs.Refusals.{pick, refusal, none, first, passes}
+use Rattle.wire.specs.Refusals.{pick, refusal, none, first}
 use Rattle.wire.specs.Header.{magic, magicOf, versionOf, typeOf, flagsOf, instanceOf, epochOf, sequenceOf, lengthOf, headerBytes}
-use Rattle.protocol.specs.Outer.{maxPayload, outcome, notWritten, roomRow, write, putRecord, encodeOuter}
-use Rattle.protocol.specs.Outer.{noHeader, headerOf, outerOk, refusedHeader, decodeOuterHeader}
+use Rattle.protocol.specs.Outer.{outcome, notWritten, write, putRecord, encodeOuter}
+use Rattle.protocol.specs.Outer.{headerOf, outerOk, refusedHeader, decodeOuterHeader}
 use Rattle.wire.specs.declared.Epoch.{Epoch}
 use Rattle.wire.specs.declared.Sequence.{Sequence}
-use Rattle.wire.specs.declared.refusal.Refusal.{Refusal}
-use Rattle.protocol.specs.declared.outer.OuterHeader.{OuterHeader}
-use Rattle.protocol.specs.declared.outer.Written.{Written}
-use Rattle.protocol.specs.declared.outer.DecodedHeader.{DecodedHeader}
+use Rattle.wire.specs.declared.Refusal.{Refusal}
+use Rattle.protocol.specs.declared.OuterHeader.{OuterHeader}
+use Rattle.protocol.specs.declared.Written.{Written}
+use Rattle.protocol.specs.declared.DecodedHeader.{DecodedHeader}
 use Rattle.wire.proofs.Headers.{header-length}
 use Rattle.wire.proofs.Overlays.{copied-fits, overlay-next, length-overlay}
 

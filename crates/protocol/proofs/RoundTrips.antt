@@ -2,20 +2,20 @@
 -- is the encoding of what was decoded. Assumes nothing.
 use Prim.Native.Nat.{ℕ, _+_, _^_, _≤_, _<_}
 use mathlib.Core.Path.{_≡_, refl, sym, ap, _∙_}
-use mathlib.Core.Bool.{Bool, true, false, _&&_}
-use mathlib.Core.List.{List, [], _∷_, _++_}
+use mathlib.Core.Bool.{true, _&&_}
+use mathlib.Core.List.{List, _++_}
 use native.Mathlib.Omega.{arith}
-use lib.ListN.{length, getD, take, drop, length-append}
+use lib.ListN.{length, take, drop, length-append}
 use lib.Seq.{take-take, take-at}
-use lib.Dec.{eqb, leb}
+use lib.Dec.{eqb}
 use borrow.Author.Tests.{eqb-true, leb-true, le-leb}
 use Rattle.wire.specs.Bytes.{fromLe, toLe, bytesAt, overlay, Octets}
-use Rattle.wire.specs.Refusals.{pick, refusal, none, first, passes}
+use Rattle.wire.specs.Refusals.{refusal, none, first, passes}
 use Rattle.wire.specs.Header.{magic, magicOf, versionOf, typeOf, flagsOf, instanceOf, epochOf, sequenceOf, lengthOf, headerBytes}
-use Rattle.protocol.specs.Outer.{maxPayload, Outcome, outcome, write, encodeOuter, outerRows, headerRows, headerOf, noHeader, outerOk, decodeOuterHeader}
-use Rattle.wire.specs.declared.refusal.Refusal.{Refusal}
-use Rattle.protocol.specs.declared.outer.OuterHeader.{OuterHeader}
-use Rattle.protocol.specs.declared.outer.DecodedHeader.{DecodedHeader}
+use Rattle.protocol.specs.Outer.{Outcome, write, encodeOuter, outerRows, headerRows, headerOf, outerOk, decodeOuterHeader}
+use Rattle.wire.specs.declared.Refusal.{Refusal}
+use Rattle.protocol.specs.declared.OuterHeader.{OuterHeader}
+use Rattle.protocol.specs.declared.DecodedHeader.{DecodedHeader}
 use Rattle.wire.proofs.Numbers.{at-whole, from-to}
 use Rattle.wire.proofs.Headers.{header-length, header-back}
 use Rattle.wire.proofs.Overlays.{part-overlay}

@@ -1,16 +1,15 @@
 -- What the answer of a writing operation tells: nothing changed, or the record stands at the position. Assumes nothing.
 use Prim.Native.Nat.{ℕ, _+_}
-use mathlib.Core.Path.{_≡_, refl, sym, ap, _∙_}
-use mathlib.Core.Bool.{Bool, true, false}
+use mathlib.Core.Path.{_≡_, sym, ap, _∙_}
+use mathlib.Core.Bool.{true}
 use mathlib.Core.List.{List}
 use lib.ListN.{length}
-use lib.Dec.{eqb}
-use borrow.Author.Tests.{eq-eqb, eqb-true, eqb-false}
+use borrow.Author.Tests.{eqb-false}
 use Rattle.wire.specs.Bytes.{overlay}
-use Rattle.wire.specs.Refusals.{pick, none, passes}
+use Rattle.wire.specs.Refusals.{passes}
 use Rattle.protocol.specs.Outer.{Outcome, outcome, write}
-use Rattle.wire.specs.declared.refusal.Refusal.{Refusal}
-use Rattle.protocol.specs.declared.outer.Written.{Written}
+use Rattle.wire.specs.declared.Refusal.{Refusal}
+use Rattle.protocol.specs.declared.Written.{Written}
 use Rattle.wire.proofs.Rows.{picked}
 
 module _ (w : Written) (r : Refusal) (bytes o o2 : List ℕ) (at : ℕ) (e : outcome w o2 ≡ write r bytes o at) where

@@ -4,13 +4,13 @@ use mathlib.Core.Bool.{Bool, _&&_}
 use mathlib.Core.List.{List, [], _∷_, _++_}
 use lib.ListN.{length, replicate}
 use lib.Dec.{eqb, leb}
-use Rattle.wire.specs.Bytes.{fromLe, toLe, overlay}
+use Rattle.wire.specs.Bytes.{fromLe, overlay}
 use Rattle.wire.specs.Refusals.{pick, refusal, none, first, passes}
 use Rattle.wire.specs.Header.{magic, magicOf, versionOf, typeOf, flagsOf, instanceOf, epochOf, sequenceOf, lengthOf, headerBytes}
-use Rattle.wire.specs.declared.refusal.Refusal.{Refusal}
-use Rattle.protocol.specs.declared.outer.OuterHeader.{OuterHeader}
-use Rattle.protocol.specs.declared.outer.Written.{Written}
-use Rattle.protocol.specs.declared.outer.DecodedHeader.{DecodedHeader}
+use Rattle.wire.specs.declared.Refusal.{Refusal}
+use Rattle.protocol.specs.declared.OuterHeader.{OuterHeader}
+use Rattle.protocol.specs.declared.Written.{Written}
+use Rattle.protocol.specs.declared.DecodedHeader.{DecodedHeader}
 
 -- ---- limits
 -- the largest payload

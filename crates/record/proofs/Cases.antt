@@ -1,37 +1,35 @@
 -- The cases of the records' rules, a law for each `return` of the code: what was tested there, and what is answered. Assumes nothing.
-use Prim.Native.Nat.{ℕ, _+_, _≤_, _<_}
+use Prim.Native.Nat.{ℕ, _+_, _≤_}
 use mathlib.Core.Path.{_≡_, refl, sym, ap, _∙_}
 use mathlib.Core.Bool.{Bool, true, false, not, _&&_, _||_}
 use mathlib.Core.List.{List, [], _∷_, _++_}
 use native.Mathlib.Omega.{arith}
 use lib.ListN.{length, length-append}
-use lib.Dec.{eqb, leb}
-use borrow.Author.Tests.{le-leb, lt-leb, eq-eqb, ne-eqb, eqb-true, eqb-false, leb-true, not-true, not-false}
+use lib.Dec.{eqb}
+use borrow.Author.Tests.{eq-eqb, ne-eqb, eqb-true, not-true, not-false}
 use Rattle.wire.specs.Bytes.{fromLe}
-use Rattle.wire.specs.Refusals.{pick, refusal, none, first, passes}
+use Rattle.wire.specs.Refusals.{refusal, none, first, passes}
 use Rattle.wire.specs.Header.{magic, magicOf, versionOf, typeOf, flagsOf, instanceOf, epochOf, sequenceOf, lengthOf, headerBytes}
-use Rattle.protocol.specs.Outer.{maxPayload, windowOk, creditOk, valueOf, outcome, write, roomRow, putRecord}
+use Rattle.protocol.specs.Outer.{windowOk, creditOk, valueOf, outcome, write, roomRow, putRecord}
 use Rattle.wire.specs.declared.Epoch.{Epoch}
 use Rattle.wire.specs.declared.Sequence.{Sequence}
-use Rattle.wire.specs.declared.refusal.Refusal.{Refusal}
-use Rattle.protocol.specs.declared.outer.Written.{Written}
+use Rattle.wire.specs.declared.Refusal.{Refusal}
+use Rattle.protocol.specs.declared.Written.{Written}
 use Rattle.wire.proofs.Rows.{Passed, picked, passed, pass-all, and-right, no-rows, row-stops, row-passes, rows-stop, rows-pass}
 use Rattle.wire.proofs.Headers.{header-length}
-use Rattle.types.specs.Types.{codeOf, typeAt, typeOk, bootstrap, lengthOk, errorOf, errorAt}
+use Rattle.types.specs.Types.{codeOf, typeAt, typeOk, bootstrap, lengthOk, errorAt}
 use Rattle.types.proofs.Cases.{known-code, code-low, unknown-code, length-limit}
-use Rattle.record.specs.Record.{allZero, lengthRow, bootstrapRow, payloadRows, payloadChecks, restRows, headerRows, headerChecks, typeFrom, recordWith, recordOf, noRecord, parseHeader}
+use Rattle.record.specs.Record.{allZero, lengthRow, bootstrapRow, payloadRows, payloadChecks, restRows, headerRows, headerChecks, typeFrom, recordWith, recordOf}
 use Rattle.record.specs.Record.{recordRows, encodeRows, recordBytes, encodeRecord, noValue, valueIn, errorIn}
 use Rattle.types.specs.declared.RecordType.{RecordType}
-use Rattle.types.specs.declared.RecordType.the-variants.{GuestAttach, HostAttach, Reset, Ack, Data, Wait, Ready, Error, Credit}
+use Rattle.types.specs.declared.RecordType.the-variants.{GuestAttach, Data}
 use Rattle.types.specs.declared.TypeLookup.{TypeLookup}
 use Rattle.types.specs.declared.TypeLookup.the-variants.{Known, Unknown}
 use Rattle.types.specs.declared.ErrorCode.{ErrorCode}
-use Rattle.types.specs.declared.ErrorCode.the-variants.{Authentication}
 use Rattle.types.specs.declared.ErrorLookup.{ErrorLookup}
 use Rattle.types.specs.declared.ErrorLookup.the-variants as Found
-use Rattle.record.specs.declared.record.Record.{Record}
-use Rattle.record.specs.declared.record.ParsedHeader.{ParsedHeader}
-use Rattle.record.specs.declared.record.Value.{Value}
+use Rattle.record.specs.declared.Record.{Record}
+use Rattle.record.specs.declared.Value.{Value}
 
 -- ---- a check of one row
 module _ (t b : Bool) (r x : Refusal) (eb : b ≡ t) where
@@ -243,19 +241,6 @@ pub ok-number : (h : List ℕ) (x : Refusal) → x ≡ headerChecks h → eqb (x
 ok-number h x e = ap passes e
 
 pub ruleset accepting = (ok-data, ok-number)
-
-module _ (h : List ℕ) (x : Refusal) (ex : x ≡ headerChecks h) where
-  pub parse-stops : (r : Record) → (x .number ≡ 0 → ⊥) → r ≡ noRecord → record { refusal = x; «record» = r } ≡ parseHeader h
-  unfolding parseHeader
-  parse-stops r n er =
-      simp (parseHeader, ← ex, ne-eqb (x .number) 0 n) (ap (λ (k : Record). record { refusal = x; «record» = k }) er)
-
-  pub parse-passes : (y : Refusal) (r : Record) → x .number ≡ 0 → y ≡ none → r ≡ recordOf h → record { refusal = y; «record» = r } ≡ parseHeader h
-  unfolding parseHeader
-  parse-passes y r n ey er =
-      simp (parseHeader, ← ex, eq-eqb (x .number) 0 n) (λ j. record { refusal = ey j; «record» = er j })
-
-pub ruleset parsing = (parse-stops, parse-passes)
 
 -- ---- the encoder
 module _ (t : ℕ) (i : List ℕ) (e s : ℕ) (p : List ℕ) (x : Refusal) (ex : x ≡ first (lengthRow t (length p) ∷ [])) where

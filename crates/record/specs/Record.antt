@@ -3,22 +3,21 @@ use Prim.Native.Nat.{ℕ, _+_}
 use mathlib.Core.Bool.{Bool, true, false, not, _&&_, _||_}
 use mathlib.Core.List.{List, [], _∷_, _++_}
 use lib.ListN.{length, replicate}
-use lib.Dec.{eqb, leb}
+use lib.Dec.{eqb}
 use Rattle.wire.specs.Bytes.{fromLe}
-use Rattle.wire.specs.Refusals.{pick, refusal, none, first, passes}
+use Rattle.wire.specs.Refusals.{pick, refusal, first}
 use Rattle.wire.specs.Header.{magic, magicOf, versionOf, typeOf, flagsOf, instanceOf, epochOf, sequenceOf, lengthOf, headerBytes}
 use Rattle.protocol.specs.Outer.{windowOk, creditOk, valueOf, Outcome, roomRow, write}
-use Rattle.wire.specs.declared.refusal.Refusal.{Refusal}
-use Rattle.types.specs.Types.{codeOf, typeAt, typeOk, bootstrap, lengthOk, errorAt}
+use Rattle.wire.specs.declared.Refusal.{Refusal}
+use Rattle.types.specs.Types.{typeAt, typeOk, bootstrap, lengthOk, errorAt}
 use Rattle.types.specs.declared.RecordType.{RecordType}
 use Rattle.types.specs.declared.RecordType.the-variants.{GuestAttach}
 use Rattle.types.specs.declared.TypeLookup.{TypeLookup}
 use Rattle.types.specs.declared.TypeLookup.the-variants.{Known, Unknown}
 use Rattle.types.specs.declared.ErrorLookup.{ErrorLookup}
 use Rattle.types.specs.declared.ErrorLookup.the-variants as Found
-use Rattle.record.specs.declared.record.Record.{Record}
-use Rattle.record.specs.declared.record.ParsedHeader.{ParsedHeader}
-use Rattle.record.specs.declared.record.Value.{Value}
+use Rattle.record.specs.declared.Record.{Record}
+use Rattle.record.specs.declared.Value.{Value}
 
 -- ---- shared checks
 -- whether all bytes are zero
@@ -94,10 +93,6 @@ noRecord =
       sequence = record { 0 = 0 };
       length = 0;
     }
-
-unfoldable pub parseHeader : List ℕ → ParsedHeader
-parseHeader h =
-    pick (passes (headerChecks h)) (record { refusal = none; «record» = recordOf h }) (record { refusal = headerChecks h; «record» = noRecord })
 
 -- ---- the encoder: 5, 6, then 8, 9, 7, then 22
 abbrev pub recordRows : ℕ → List ℕ → ℕ → ℕ → List ℕ → List (Bool × Refusal)

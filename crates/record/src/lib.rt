@@ -1,2 +1,125 @@
-// Validated records: their checks and encoding (the first half of nvxs/record.rs).
-pub mod record;
+// Records (the first half of nvxs/record.rs): what a header says as a value, and what a record
+// answers when asked.
+use payloads::value;
+use types::ErrorCode;
+use types::ErrorLookup;
+use types::RecordType;
+use wire::Epoch;
+use wire::Sequence;
+ghost use mathlib.Core.Path.{_≡_};
+ghost use Rattle.types.specs.Types.{codeOf};
+ghost use Rattle.record.specs.Record.{noRecord, valueIn, windowIn, creditIn, errorIn};
+
+// A record that was decoded and validated, without its payload.
+pub struct Record {
+    pub record_type: RecordType,
+    pub instance_id: [u8; 16],
+    pub epoch: Epoch,
+    pub sequence: Sequence,
+    pub length: usize,
+}
+
+// A number that may be missing.
+pub struct Value {
+    pub present: bool,
+    pub value: u32,
+}
+
+// No record: what an answer without one holds.
+pub fn no_record() -> Record
+    ensures { λ r. ⌜ r ≡ noRecord ⌝ }
+{
+    Record {
+        record_type: RecordType::GuestAttach,
+        instance_id: [0u8; 16],
+        epoch: Epoch(0),
+        sequence: Sequence(0),
+        length: 0,
+    }
+}
+
+// The number in a payload of four bytes, of a record of the type that has one.
+fn value_in(wanted: u8, code: u8, payload: &[u8]) -> Value
+    ensures { λ r. ⌜ r ≡ valueIn wanted code (now (payload .entry)) ⌝ }
+{
+    if code != wanted {
+        return Value {
+            present: false,
+            value: 0,
+        };
+    }
+    if payload.len() != 4 {
+        return Value {
+            present: false,
+            value: 0,
+        };
+    }
+    Value {
+        present: true,
+        value: value(payload),
+    }
+}
+
+impl Record {
+    // The record's type.
+    pub fn record_type(self) -> RecordType
+        ensures { λ r. ⌜ r ≡ self .«record_type» ⌝ }
+    {
+        self.record_type
+    }
+
+    // The session's instance, zero in a bootstrap record.
+    pub fn instance_id(self) -> [u8; 16]
+        ensures { λ r. ⌜ r ≡ self .«instance_id» ⌝ }
+    {
+        self.instance_id
+    }
+
+    // The session's epoch, zero in a bootstrap record.
+    pub fn epoch(self) -> Epoch
+        ensures { λ r. ⌜ r ≡ self .epoch ⌝ }
+    {
+        self.epoch
+    }
+
+    // The record's number in its direction, zero in a bootstrap record.
+    pub fn sequence(self) -> Sequence
+        ensures { λ r. ⌜ r ≡ self .sequence ⌝ }
+    {
+        self.sequence
+    }
+
+    // The payload's length.
+    pub fn length(self) -> usize
+        ensures { λ r. ⌜ r ≡ self .length ⌝ }
+    {
+        self.length
+    }
+
+    // The window of an ACK record, none for another type.
+    pub fn window(self, payload: &[u8]) -> Value
+        ensures { λ r. ⌜ r ≡ windowIn (codeOf (self .«record_type»)) (now (payload .entry)) ⌝ }
+    {
+        let record_type = self.record_type;
+        value_in(4, record_type.code(), payload)
+    }
+
+    // The number of bytes that a CREDIT record returns, none for another type.
+    pub fn credit(self, payload: &[u8]) -> Value
+        ensures { λ r. ⌜ r ≡ creditIn (codeOf (self .«record_type»)) (now (payload .entry)) ⌝ }
+    {
+        let record_type = self.record_type;
+        value_in(9, record_type.code(), payload)
+    }
+
+    // The code of an ERROR record, none for another type.
+    pub fn error_code(self, payload: &[u8]) -> ErrorLookup
+        ensures { λ r. ⌜ r ≡ errorIn (codeOf (self .«record_type»)) (now (payload .entry)) ⌝ }
+    {
+        let record_type = self.record_type;
+        if record_type.code() != 8 {
+            return ErrorLookup::Unknown;
+        }
+        ErrorCode::from_code(value(payload))
+    }
+}

@@ -1,13 +1,13 @@
 // What a call answered, at the end of a line.
-use parser::parser::Place;
-use parser::parser::Pushed;
-use parser::parser::RecordParser;
-use parser::parser::payload;
-use protocol::outer::Written;
-use record::record::Record;
-use record::record::Value;
+use parser::Place;
+use parser::Pushed;
+use parser::RecordParser;
+use parser::payload;
+use protocol::Written;
+use record::Record;
+use record::Value;
 use types::ErrorLookup;
-use wire::refusal::Refusal;
+use wire::Refusal;
 
 // A refusal's number and its first two figures.
 fn refusal(refusal: Refusal) {

@@ -2,13 +2,13 @@
 use crate::answers;
 use codec::encode_record;
 use header_bytes::encode_header;
-use parser::parser::RecordParser;
-use protocol::outer::Written;
-use protocol::outer::put_record;
+use parser::RecordParser;
+use protocol::Written;
+use protocol::put_record;
 use types::RecordType;
 use wire::Epoch;
 use wire::Sequence;
-use wire::bytes::least;
+use wire::least;
 ghost use Prim.Native.Nat.{_≤_};
 
 // Instance, epoch and sequence of a record.

@@ -1,7 +1,7 @@
 // Streams of several pushes, a line for each push.
 use crate::answers;
 use codec::encode_record;
-use parser::parser::RecordParser;
+use parser::RecordParser;
 use types::RecordType;
 use wire::Epoch;
 use wire::Sequence;

@@ -4,8 +4,8 @@ use crate::frame::after;
 use copying::copy_at;
 use numbers::u32_to_le_bytes;
 use numbers::u64_to_le_bytes;
-use session::session::Identity;
-use wire::refusal::Refusal;
+use session::Identity;
+use wire::Refusal;
 
 // Bytes of an answer's head.
 pub const HEAD: usize = 128;

@@ -9,6 +9,8 @@ const ROOM: usize = 66048;
 const FRAME: usize = 24;
 // Bytes of an area of the memory.
 pub const AREA: usize = 65600;
+// Bytes of the memory: four areas.
+pub const MEMORY: usize = 262400;
 // Where the output stands in the memory: its fourth area.
 pub const OUTPUT: usize = 196800;
 

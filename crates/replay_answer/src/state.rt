@@ -16,11 +16,11 @@ use crate::answer::put4;
 use crate::answer::put8;
 use crate::answer::refused;
 use crate::frame::after;
-use parser::parser::Place;
-use parser::parser::RecordParser;
-use session::session::Identity;
-use session::session::OptionalIdentity;
-use wire::refusal::Refusal;
+use parser::Place;
+use parser::RecordParser;
+use session::Identity;
+use session::OptionalIdentity;
+use wire::Refusal;
 
 // The part that the payload is.
 // Internal: harness code, held to the Rust's answers by the run.

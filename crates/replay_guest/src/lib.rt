@@ -1,8 +1,8 @@
 // The calls of a guest's session, operations 10 to 16 and 50, for the replay
 // (tests/differential/FORMAT.md). Harness code: `turn` is for the replay alone and says nothing in an
 // `ensures`. It is proved safe and to end; the run holds what it does to the Rust's answers.
-use guest::guest::GuestSession;
-use guest::guest::GuestState;
+use guest::GuestSession;
+use guest::GuestState;
 use guest_accept::GuestEvent;
 use guest_accept::Received;
 use guest_asks::WindowAnswer;

@@ -2,8 +2,8 @@
 // (tests/differential/FORMAT.md). Harness code: `turn` is for the replay alone and says nothing in an
 // `ensures`. It is proved safe and to end; the run holds what it does to the Rust's answers.
 use copying::copy_at;
-use host::host::HostSession;
-use host::host::HostState;
+use host::HostSession;
+use host::HostState;
 use host_calls::Closed;
 use host_calls::Sent;
 use host_once::receive_once;
@@ -26,8 +26,8 @@ use replay_answer::frame::output;
 use replay_answer::frame::stage;
 use replay_answer::state::put_session;
 use replay_answer::state::received;
+use wire::Refusal;
 use wire::Sequence;
-use wire::refusal::Refusal;
 
 // Where the stage stands in the memory: its second area.
 const STAGE: usize = AREA;

@@ -4,9 +4,9 @@ use copying::copy_at;
 use numbers::u32_from_le_bytes;
 use payloads::DecodedPayload;
 use payloads::EncodedPayload;
-use protocol::outer::DecodedHeader;
-use protocol::outer::Written;
-use protocol::outer::encode_outer;
+use protocol::DecodedHeader;
+use protocol::Written;
+use protocol::encode_outer;
 use replay_answer::answer::Answer;
 use replay_answer::answer::Ask;
 use replay_answer::answer::COUNT;
@@ -26,7 +26,7 @@ use replay_answer::frame::eight;
 use replay_answer::frame::low;
 use replay_answer::frame::output;
 use replay_answer::frame::sixteen;
-use session::session::Identity;
+use session::Identity;
 use wire::Epoch;
 use wire::Sequence;
 
@@ -104,7 +104,7 @@ fn decode(input: &[u8]) -> Answer {
     if input.len() != 44 {
         return blank();
     }
-    header(protocol::outer::decode_outer_header(bytes44(input)))
+    header(protocol::decode_outer_header(bytes44(input)))
 }
 
 // The answer of an encoder of four bytes.

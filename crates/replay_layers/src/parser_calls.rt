@@ -1,11 +1,10 @@
 // The calls of a bare parser: operations 30 to 32.
 use crate::record_calls::error_value;
-use parser::parser::Place;
-use parser::parser::Pushed;
-use parser::parser::RecordParser;
-use parser::parser::payload;
-use record::record::Record;
-use record::record::Value;
+use parser::Pushed;
+use parser::RecordParser;
+use parser::payload;
+use record::Record;
+use record::Value;
 use replay_answer::answer::Answer;
 use replay_answer::answer::Ask;
 use replay_answer::answer::COUNT;
@@ -29,7 +28,7 @@ use replay_answer::frame::stage;
 use replay_answer::state::place_number;
 use replay_answer::state::placed;
 use replay_answer::state::put_parser;
-use session::session::Identity;
+use session::Identity;
 
 // Where the stage stands in the memory: its third area.
 const STAGE: usize = 131200;

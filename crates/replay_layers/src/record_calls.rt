@@ -1,7 +1,7 @@
 // The calls of the record encoder, and what types and error codes answer: operations 40, 47, 48.
 use crate::outer_calls::Fields;
 use codec::encode_record;
-use protocol::outer::Written;
+use protocol::Written;
 use replay_answer::answer::Answer;
 use replay_answer::answer::Ask;
 use replay_answer::answer::COUNT;
@@ -18,7 +18,7 @@ use types::ErrorCode;
 use types::ErrorLookup;
 use types::RecordType;
 use types::TypeLookup;
-use wire::refusal::Refusal;
+use wire::Refusal;
 
 // encode_record with the fields of an encoder's input. An unknown type writes nothing.
 pub(crate) fn encode_to(x: Fields, payload: &[u8], output: &mut [u8], at: usize) -> Written {

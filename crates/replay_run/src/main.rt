@@ -1,8 +1,9 @@
 // Reads blocks of calls from standard input and writes their answers to standard output
 // (tests/differential/FORMAT.md).
-ghost use mathlib.Core.Path.{_≡_};
-ghost use Prim.Native.Nat.{_≤_};
-ghost use lib.ListN.{length};
+mod blocks;
+mod emit;
+
+use crate::blocks::block;
 
 // Writes the first bytes of the answers.
 fn flush(out: &[u8], count: usize) {
@@ -22,7 +23,7 @@ fn all() {
         if got < 131072 {
             return;
         }
-        let count = replay::block(&calls, &mut out);
+        let count = block(&calls, &mut out);
         flush(&out, count);
     }
 }

@@ -5,17 +5,15 @@ use mathlib.Core.Bool.{Bool, true, false, not, _&&_}
 use mathlib.Core.List.{List, [], _∷_}
 use lib.Dec.{eqb, ltb}
 use borrow.Author.Tests.{lt-ltb, le-ltb, eq-eqb, ne-eqb, not-true, not-false}
-use Rattle.wire.specs.Refusals.{pick, refusal, none, first, passes}
-use Rattle.wire.specs.declared.Epoch.{Epoch}
-use Rattle.wire.specs.declared.Sequence.{Sequence}
-use Rattle.wire.specs.declared.refusal.Refusal.{Refusal}
+use Rattle.wire.specs.Refusals.{pick, refusal, none, first}
+use Rattle.wire.specs.declared.Refusal.{Refusal}
 use Rattle.wire.proofs.Rows.{row-stops, row-passes, no-rows, rows-stop, rows-pass}
 use Rattle.record.specs.Record.{allZero}
-use Rattle.record.specs.declared.record.Record.{Record}
-use Rattle.session.specs.Checks.{same, identity, noIdentity, identityOk, holds, shown, identityOf, recordIdentity, lastSequence, nextRow, nextSequence, sequenceRow, otherInstance, instanceRow, epochRow}
-use Rattle.session.specs.declared.session.Identity.{Identity}
-use Rattle.session.specs.declared.session.OptionalIdentity.{OptionalIdentity}
-use Rattle.session.specs.declared.session.NextSequence.{NextSequence}
+use Rattle.record.specs.declared.Record.{Record}
+use Rattle.session.specs.Checks.{same, identity, noIdentity, identityOk, holds, shown, recordIdentity, lastSequence, nextRow, nextSequence, sequenceRow, otherInstance, instanceRow, epochRow}
+use Rattle.session.specs.declared.Identity.{Identity}
+use Rattle.session.specs.declared.OptionalIdentity.{OptionalIdentity}
+use Rattle.session.specs.declared.NextSequence.{NextSequence}
 
 -- ---- identities
 module _ (i : List ℕ) (e : ℕ) (z : Bool) (ez : z ≡ allZero i) where

@@ -4,13 +4,13 @@ use mathlib.Core.Bool.{Bool, true, false, not, _&&_}
 use mathlib.Core.List.{List, [], _∷_}
 use lib.ListN.{replicate}
 use lib.Dec.{eqb, ltb}
-use Rattle.wire.specs.Refusals.{pick, refusal, none, first, passes}
-use Rattle.wire.specs.declared.refusal.Refusal.{Refusal}
+use Rattle.wire.specs.Refusals.{pick, refusal, none}
+use Rattle.wire.specs.declared.Refusal.{Refusal}
 use Rattle.record.specs.Record.{allZero}
-use Rattle.record.specs.declared.record.Record.{Record}
-use Rattle.session.specs.declared.session.Identity.{Identity}
-use Rattle.session.specs.declared.session.OptionalIdentity.{OptionalIdentity}
-use Rattle.session.specs.declared.session.NextSequence.{NextSequence}
+use Rattle.record.specs.declared.Record.{Record}
+use Rattle.session.specs.declared.Identity.{Identity}
+use Rattle.session.specs.declared.OptionalIdentity.{OptionalIdentity}
+use Rattle.session.specs.declared.NextSequence.{NextSequence}
 
 -- the same bytes
 unfoldable pub same : List ℕ → List ℕ → Bool

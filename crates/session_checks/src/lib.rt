@@ -1,9 +1,9 @@
 // The checks that both ends share (nvxs/mod.rs): on the state that a call needs, and on a record's
 // sequence and identity.
-use session::session::Identity;
-use session::session::same_instance;
+use session::Identity;
+use session::same_instance;
+use wire::Refusal;
 use wire::Sequence;
-use wire::refusal::Refusal;
 ghost use mathlib.Core.Path.{_≡_};
 ghost use mathlib.Core.List.{[], _∷_};
 ghost use lib.Dec.{eqb};

@@ -1,6 +1,6 @@
 -- What a listing keeps of its parser. Cutting a parser down to that (`settled`) takes off no byte that is held and no number, and a push
 -- from a parser that is cut down leaves one that `settled` cuts down. Assumes nothing.
-use Prim.Native.Nat.{ℕ, zero, suc, _+_, _-_, _≤_, _<_, min}
+use Prim.Native.Nat.{ℕ, zero, suc, _+_, _-_, _≤_, _<_}
 use mathlib.Core.Path.{_≡_, refl, sym, ap, subst, _∙_}
 use mathlib.Core.Bool.{Bool, true, false, not, _&&_}
 use mathlib.Core.List.{List, [], _∷_, _++_, append-assoc}
@@ -9,18 +9,18 @@ use native.Mathlib.Decide.{decLe}
 use lib.ListN.{length, getD, take, drop, length-append, length-take, length-drop, drop-of-length-le, replicate}
 use lib.Seq.{take-all, drop-at, drop-drop, getD-drop}
 use lib.Dec.{eqb, ltb}
-use borrow.Author.Tests.{ltb-true, ltb-false, eq-eqb, ne-eqb, eqb-true, not-true, not-false}
+use borrow.Author.Tests.{ltb-false, eq-eqb, ne-eqb, eqb-true, not-true, not-false}
 use Rattle.wire.specs.Bytes.{overlay}
-use Rattle.wire.specs.Refusals.{pick, refusal, none, first, passes}
+use Rattle.wire.specs.Refusals.{pick, refusal, first, passes}
 use Rattle.wire.specs.Header.{typeOf, lengthOf}
-use Rattle.wire.specs.declared.refusal.Refusal.{Refusal}
+use Rattle.wire.specs.declared.Refusal.{Refusal}
 use Rattle.wire.proofs.Rows.{picked, and-right}
 use Rattle.record.specs.Record.{allZero, headerChecks, payloadChecks}
 use Rattle.record.proofs.Zeros.{zero-more, zero-never}
 use Rattle.parser.specs.Push.{parserOf, countsOk, errorOk, soundParser, Push, waiting, finish, bodyTaken, pushBody, headTaken, headWith, pushHead, pushRows, push, bufferedOf}
-use Rattle.parser.specs.declared.parser.RecordParser.{RecordParser}
-use Rattle.parser.specs.declared.parser.Place.{Place}
-use Rattle.parser.specs.declared.parser.Place.the-variants.{Piece, Stage}
+use Rattle.parser.specs.declared.RecordParser.{RecordParser}
+use Rattle.parser.specs.declared.Place.{Place}
+use Rattle.parser.specs.declared.Place.the-variants.{Piece, Stage}
 use Rattle.parser.proofs.Cases.{sound-count, sound-empty}
 use Rattle.settle.specs.Settled.{idle, settled, numberOnly, isSettled}
 

@@ -4,10 +4,10 @@ use mathlib.Core.Bool.{Bool, _&&_}
 use lib.ListN.{drop, replicate}
 use lib.Dec.{eqb}
 use Rattle.wire.specs.Refusals.{pick, refusal}
-use Rattle.wire.specs.declared.refusal.Refusal.{Refusal}
+use Rattle.wire.specs.declared.Refusal.{Refusal}
 use Rattle.record.specs.Record.{allZero}
 use Rattle.parser.specs.Push.{parserOf}
-use Rattle.parser.specs.declared.parser.RecordParser.{RecordParser}
+use Rattle.parser.specs.declared.RecordParser.{RecordParser}
 
 -- between records no byte of a header, and of the refusal that ended the capture its number alone
 abbrev pub idle : ℕ → RecordParser

@@ -1,8 +1,8 @@
 // What a listing keeps of its parser, so that a listing which no calls leave can be told (23).
 use checks::all_zero;
-use parser::parser::RecordParser;
-use protocol::outer::OUTER_HEADER_LEN;
-use wire::refusal::Refusal;
+use parser::RecordParser;
+use protocol::OUTER_HEADER_LEN;
+use wire::Refusal;
 ghost use mathlib.Core.Path.{_≡_};
 ghost use lib.ListN.{drop};
 ghost use Rattle.record.specs.Record.{allZero};

@@ -1,5 +1,5 @@
 // Record types and error codes.
-use protocol::outer::OUTER_MAX_PAYLOAD;
+use protocol::OUTER_MAX_PAYLOAD;
 ghost use mathlib.Core.Path.{_≡_};
 ghost use mathlib.Core.Bool.{_&&_};
 ghost use lib.Dec.{leb};

@@ -1,16 +1,14 @@
 -- A list laid over a part of another: a loop that copies, and copies side by side. Assumes nothing.
 use Prim.Native.Nat.{ℕ, zero, suc, _+_, _-_, _≤_, _<_}
 use mathlib.Core.Path.{_≡_, refl, sym, ap, ap₂, _∙_}
-use mathlib.Core.List.{List, [], _∷_, _++_, append-assoc, append-nil}
+use mathlib.Core.List.{List, [], _++_, append-assoc, append-nil}
 use native.Mathlib.Numerals.{add-one}
 use native.Mathlib.Nat.{zero-add, add-zero, not-suc-le-zero, le-of-suc-le-suc}
 use native.Mathlib.Omega.{arith}
 use lib.ListN.{length, getD, take, drop, set, length-append, length-take, length-drop}
-use lib.Seq.{paste, paste-suc, getD-take, drop-length, take-length, take-at, drop-at, drop-drop, take-append-le}
-use lib.Dec.{leb}
+use lib.Seq.{paste, paste-suc, getD-take, drop-length, take-length, take-at, drop-at, drop-drop}
 use borrow.Author.Tests.{le-leb, lt-leb}
 use Rattle.wire.specs.Bytes.{overlay, copied, bytesAt}
-use Rattle.wire.specs.Refusals.{pick}
 
 -- one more byte of a copy, and its end
 pub paste-more : (d : List ℕ) (at : ℕ) (s : List ℕ) (i : ℕ) → at + i < length d → i < length s
@@ -83,6 +81,10 @@ overlay-all d s h =
     ap (λ (r : List ℕ). s ++ r) e ∙ append-nil s
 
 -- a byte of `bytesAt`
+pub length-bytesAt : (i n : ℕ) (l : List ℕ) → length (bytesAt i n l) ≡ n
+length-bytesAt i zero l = refl
+length-bytesAt i (suc n) l = ap suc (length-bytesAt (i + 1) n l)
+
 pub getD-bytesAt : (i n : ℕ) (l : List ℕ) (j : ℕ) → j < n → getD (bytesAt i n l) j 0 ≡ getD l (i + j) 0
 getD-bytesAt i zero l j h = absurd (not-suc-le-zero h)
 getD-bytesAt i (suc n) l zero h = ap (λ (k : ℕ). getD l k 0) (sym (add-zero i))

@@ -4,7 +4,7 @@ use mathlib.Core.Bool.{Bool, true, false, _&&_}
 use mathlib.Core.List.{List, [], _∷_, _++_}
 use borrow.Author.Tests.{eqb-false}
 use Rattle.wire.specs.Refusals.{pick, none, first, passes}
-use Rattle.wire.specs.declared.refusal.Refusal.{Refusal}
+use Rattle.wire.specs.declared.Refusal.{Refusal}
 
 -- every row's test holds
 abbrev pub Passed : List (Bool × Refusal) → Type 0

@@ -1,5 +1,5 @@
 -- `checks::all_zero` meets its contract. The loop's invariant: `zero` says whether the first `i` bytes are all zero; `zero-more` and `zero-never` go one byte on. The measure is what is left of 16. Assumes nothing.
-use Prim.Native.Nat.{_+_, _-_, _≤_, _<_}
+use Prim.Native.Nat.{_-_, _≤_, _<_}
 use mathlib.Core.Path.{_≡_, refl, ap, _∙_}
 use mathlib.Core.Logic.{⊎-elim}
 use native.Mathlib.Omega.{arith}

@@ -1,6 +1,6 @@
 -- `copying::copy` meets its contract. The loop's invariant: after `i` bytes the target is the target at entry with the first `i` bytes of the source pasted at the index (`paste-more`).
 -- At the end that is `overlay` (`paste-whole`). The measure is what is left of the source. Assumes nothing.
-use Prim.Native.Nat.{_+_, _-_, _≤_}
+use Prim.Native.Nat.{_-_, _≤_}
 use mathlib.Core.Path.{_≡_, refl, _∙_}
 use native.Mathlib.Omega.{arith}
 use lib.ListN.{length, length-set}

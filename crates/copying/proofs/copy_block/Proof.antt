@@ -1,6 +1,5 @@
 -- `copying::copy_block` meets its contract: the first bytes of the block are the source when they go to the target (`overlay-block`). Assumes nothing.
 use borrow.Author.Needs.{needs}
-use Prim.Native.Nat.{_+_, _≤_}
 use mathlib.Core.Path.{_≡_, ap, _∙_}
 use mathlib.Core.List.{List}
 use Prim.Native.Nat.{ℕ}

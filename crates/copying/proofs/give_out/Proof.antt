@@ -1,7 +1,7 @@
 -- `copying::give_out` meets its contract, as `copy` with the block's first bytes for a source: after `i` bytes the target is the target at entry with the first `i` of them pasted at the index.
 -- The measure is what is left of the count. Assumes nothing.
-use Prim.Native.Nat.{_+_, _-_, _≤_}
-use mathlib.Core.Path.{_≡_, refl, sym, _∙_}
+use Prim.Native.Nat.{_-_, _≤_}
+use mathlib.Core.Path.{_≡_, refl, _∙_}
 use native.Mathlib.Omega.{arith}
 use lib.ListN.{length, take, length-set, length-take}
 use lib.Seq.{paste, paste-zero}

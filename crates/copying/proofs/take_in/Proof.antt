@@ -1,6 +1,6 @@
 -- `copying::take_in` meets its contract, as `copy` with the index 0: after `i` bytes the block is the block at entry with the first `i` bytes of the source pasted at its start.
 -- The measure is what is left of the source. Assumes nothing.
-use Prim.Native.Nat.{_+_, _-_, _≤_}
+use Prim.Native.Nat.{_-_, _≤_}
 use mathlib.Core.Path.{_≡_, refl, _∙_}
 use native.Mathlib.Omega.{arith}
 use lib.ListN.{length, length-set}

@@ -1,7 +1,6 @@
 -- `fields::flags` meets its contract. The byte read is that of `flagsOf`. Assumes nothing.
 use mathlib.Core.Path.{refl}
 use Rattle.wire.specs.Header.{flagsOf}
-use borrow.Author.Needs.{needs}
 use lib.Dec.{lit<}
 use Rattle.fields.proofs.flags.Statement.{statement}
 use Rattle.fields.proofs.flags.Tie as tie

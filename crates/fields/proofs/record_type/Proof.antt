@@ -1,7 +1,6 @@
 -- `fields::record_type` meets its contract. The byte read is that of `typeOf`. Assumes nothing.
 use mathlib.Core.Path.{refl}
 use Rattle.wire.specs.Header.{typeOf}
-use borrow.Author.Needs.{needs}
 use lib.Dec.{lit<}
 use Rattle.fields.proofs.record_type.Statement.{statement}
 use Rattle.fields.proofs.record_type.Tie as tie

@@ -22,11 +22,8 @@ part-filled-end c = search needs
 filled-requires : tie.Need-filled-requires
 filled-requires c κs = search needs
 
-add-if1 : tie.Need-add-if1
-add-if1 c = search needs
-
-add-wait : tie.Need-add-wait
-add-wait c = search needs
+add-come : tie.Need-add-come
+add-come c = search needs
 
 wait-requires : tie.Need-wait-requires
 wait-requires c κs = search needs
@@ -64,8 +61,7 @@ header-step-spec =
     part-filled-start
     part-filled-end
     filled-requires
-    add-if1
-    add-wait
+    add-come
     wait-requires
     returns
     sub-checked

@@ -16,26 +16,23 @@ sub-least c = search needs
 least-requires : tie.Need-least-requires
 least-requires c κs = search needs
 
-add-if1 : tie.Need-add-if1
-add-if1 c = search needs
+sub-taken : tie.Need-sub-taken
+sub-taken c = search needs
 
-sub-copy-at : tie.Need-sub-copy-at
-sub-copy-at c = search needs
+part-taken-start : tie.Need-part-taken-start
+part-taken-start c = search needs
 
-part-copy-at-start : tie.Need-part-copy-at-start
-part-copy-at-start c = search needs
+part-taken-end : tie.Need-part-taken-end
+part-taken-end c = search needs
 
-part-copy-at-end : tie.Need-part-copy-at-end
-part-copy-at-end c = search needs
+add-end : tie.Need-add-end
+add-end c = search needs
+
+add-come : tie.Need-add-come
+add-come c = search needs
 
 copy-at-requires : tie.Need-copy-at-requires
 copy-at-requires c κs = search needs
-
-add-wait : tie.Need-add-wait
-add-wait c = search needs
-
-add-wait-2 : tie.Need-add-wait-2
-add-wait-2 c = search needs
 
 wait-requires : tie.Need-wait-requires
 wait-requires c κs = search needs
@@ -46,15 +43,6 @@ same-length c = search needs
 returns : tie.Need-returns
 returns c = search body-waits
 
-sub-store-last : tie.Need-sub-store-last
-sub-store-last c = search needs
-
-part-store-last-start : tie.Need-part-store-last-start
-part-store-last-start c = search needs
-
-part-store-last-end : tie.Need-part-store-last-end
-part-store-last-end c = search needs
-
 store-last-requires : tie.Need-store-last-requires
 store-last-requires c κs = search needs
 
@@ -63,9 +51,6 @@ place-of-requires c κs = search needs
 
 whole-requires : tie.Need-whole-requires
 whole-requires c κs = search needs
-
-add-finished : tie.Need-add-finished
-add-finished c = search needs
 
 finished-requires : tie.Need-finished-requires
 finished-requires c κs = search needs
@@ -76,7 +61,7 @@ same-length-2 c = search needs
 returns-2 : tie.Need-returns-2
 returns-2 c =
     let p = c .before .before .before .before .before .before .before .before .before .before .before .before .before .before .before .pre in
-    body-ends _ _ _ _ _ _ _ _ (c .before .before .before .before .before .before .before .before .before .before .before .length .ensures) (c .before .before .before .before .before .before .before .before .before .before .least .ensures) (c .before .before .before .before .before .before .before .before .before .if1 .left) (p .1) _ _ _ (p .2) (p .0) (c .before .before .before .before .before .before .store-last .ensures) (c .before .before .before .place-of .ensures) (c .before .whole .ensures) (c .finished .ensures)
+    body-ends _ _ _ _ _ _ _ _ (c .before .before .before .before .before .before .before .before .before .before .before .length .ensures) (c .before .before .before .before .before .before .before .before .before .before .least .ensures) (c .before .before .before .before .before .before .before .before .if1 .left) (p .1) _ _ _ (p .2) (p .0) (c .before .before .before .before .before .before .store-last .ensures) (c .before .before .before .place-of .ensures) (c .before .whole .ensures) (c .finished .ensures)
 
 pub payload-step-spec : {M : Type 1} → statement M
 payload-step-spec =
@@ -86,23 +71,18 @@ payload-step-spec =
     cast-size
     sub-least
     least-requires
-    add-if1
-    sub-copy-at
-    part-copy-at-start
-    part-copy-at-end
+    sub-taken
+    part-taken-start
+    part-taken-end
+    add-end
+    add-come
     copy-at-requires
-    add-wait
-    add-wait-2
     wait-requires
     same-length
     returns
-    sub-store-last
-    part-store-last-start
-    part-store-last-end
     store-last-requires
     place-of-requires
     whole-requires
-    add-finished
     finished-requires
     same-length-2
     returns-2)

@@ -1,6 +1,6 @@
 -- `settle::zero_from` meets its contract. The loop's invariant: `zero` says whether the bytes from `from` up to `i` are all zero; `scan-zero` and `scan-other` of proofs/Settled go one byte on. The measure is what is left of 44. Assumes nothing.
 use Prim.Native.Nat.{_-_, _≤_, _<_}
-use mathlib.Core.Path.{_≡_, refl, sym, ap, _∙_}
+use mathlib.Core.Path.{_≡_, _∙_}
 use mathlib.Core.Logic.{⊎-elim}
 use native.Mathlib.Omega.{arith}
 use borrow.Author.Needs.{needs}
