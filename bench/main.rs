@@ -13,7 +13,7 @@ use std::hint::black_box;
 use std::time::{Duration, Instant};
 
 /// Timed runs of each side, the two in turn.
-const RUNS: usize = 15;
+const RUNS: usize = 45;
 /// About how long a timed run takes.
 const SPAN: Duration = Duration::from_millis(4);
 

@@ -22,10 +22,9 @@ pub struct GuestTurn {
     pub next: usize,
 }
 
-// The relay after the guest's answers, the bytes of the DATA record, and where its own ends.
+// The relay after the guest's answers, and where its own ends.
 pub struct RelayTurn {
     pub parser: RecordParser,
-    pub consumed: usize,
     pub next: usize,
 }
 
@@ -33,13 +32,6 @@ pub struct RelayTurn {
 pub struct HostTurn {
     pub host: HostSession,
     pub sums: Sums,
-}
-
-// Both ends after the guest's answer, and where that ends.
-pub struct Answered {
-    pub host: HostSession,
-    pub guest: GuestSession,
-    pub next: usize,
 }
 
 // Both ends and the relay between them.
@@ -90,8 +82,8 @@ fn rewrite(record: Record, sequence: u64, bytes: &[u8], wire: &mut [u8]) -> usiz
     written.next
 }
 
-// The relay reads the DATA record and writes it with another sequence.
-fn relay_data(
+// The relay reads the DATA record, writes it with another sequence, and reads the CREDIT record.
+fn relay_turn(
     p: RecordParser,
     sequence: u64,
     reply: &[u8],
@@ -101,32 +93,12 @@ fn relay_data(
     let data = parser_push::push(p, reply, stage);
     let record = data.record;
     let place = data.place;
-    let parser = data.parser;
     let bytes = parser::payload(reply, stage, place, record.length);
-    RelayTurn {
-        parser,
-        consumed: data.consumed,
-        next: rewrite(record, sequence, bytes, wire),
-    }
-}
-
-// The same, and the relay reads the CREDIT record.
-fn relay_turn(
-    p: RecordParser,
-    sequence: u64,
-    reply: &[u8],
-    stage: &mut [u8],
-    wire: &mut [u8],
-) -> RelayTurn {
-    let data = relay_data(p, sequence, reply, stage, wire);
+    let next = rewrite(record, sequence, bytes, wire);
     let waiting = data.parser;
     let credit = parser_push::push(waiting, cut(reply, data.consumed, reply.len()), stage);
     let parser = credit.parser;
-    RelayTurn {
-        parser,
-        consumed: data.consumed,
-        next: data.next,
-    }
+    RelayTurn { parser, next }
 }
 
 // The host receives the echo.
@@ -141,52 +113,8 @@ fn host_turn(h: HostSession, wire: &[u8], stage: &mut [u8], sums: Sums, whole: b
     }
 }
 
-// The host sends a message, and the guest answers it.
-fn there(
-    h: HostSession,
-    g: GuestSession,
-    message: &[u8],
-    stage: &mut [u8],
-    wire: &mut [u8],
-    reply: &mut [u8],
-) -> Answered {
-    let sent = host_calls::send(h, message, wire, 0);
-    let host = sent.session;
-    let turn = guest_turn(g, cut(wire, 0, sent.next), stage, reply);
-    let guest = turn.guest;
-    Answered {
-        host,
-        guest,
-        next: turn.next,
-    }
-}
-
-// The relay hands on the guest's answer, and the host receives it.
-fn back(
-    link: Link,
-    sequence: u64,
-    whole: bool,
-    reply: &[u8],
-    stage: &mut [u8],
-    wire: &mut [u8],
-) -> Link {
-    let p = link.parser;
-    let relayed = relay_turn(p, sequence, reply, stage, wire);
-    let h = link.host;
-    let turn = host_turn(h, cut(wire, 0, relayed.next), stage, link.sums, whole);
-    let host = turn.host;
-    let guest = link.guest;
-    let parser = relayed.parser;
-    let sums = turn.sums;
-    Link {
-        host,
-        guest,
-        parser,
-        sums,
-    }
-}
-
-// One message there and back, with its sequence.
+// One message there and back, with its sequence: the host sends it, the guest answers, the relay hands
+// the answer on, and the host receives it.
 fn turn(
     link: Link,
     sequence: u64,
@@ -197,19 +125,23 @@ fn turn(
     reply: &mut [u8],
 ) -> Link {
     let h = link.host;
+    let sent = host_calls::send(h, message, wire, 0);
     let g = link.guest;
-    let t = there(h, g, message, stage, wire, reply);
-    let host = t.host;
-    let guest = t.guest;
-    let parser = link.parser;
-    let sums = link.sums;
-    let middle = Link {
+    let answered = guest_turn(g, cut(wire, 0, sent.next), stage, reply);
+    let p = link.parser;
+    let relayed = relay_turn(p, sequence, cut(reply, 0, answered.next), stage, wire);
+    let waiting = sent.session;
+    let received = host_turn(waiting, cut(wire, 0, relayed.next), stage, link.sums, whole);
+    let host = received.host;
+    let guest = answered.guest;
+    let parser = relayed.parser;
+    let sums = received.sums;
+    Link {
         host,
         guest,
         parser,
         sums,
-    };
-    back(middle, sequence, whole, cut(reply, 0, t.next), stage, wire)
+    }
 }
 
 // A link whose ends are ready for DATA.
