@@ -6,12 +6,16 @@ use bench_core::parts::add_payload;
 use bench_core::parts::cut;
 use bench_core::parts::no_sums;
 use bench_core::start::active_guest;
-use codec::encode_record;
-use guest::GuestSession;
+use guest::fast;
+use guest_core::GuestSession;
+use guest_core::send;
 use host::HostSession;
+use host::calls;
 use parser::RecordParser;
+use parser::push;
 use record::Record;
-use types::RecordType;
+use record::codec::encode_record;
+use record::types::RecordType;
 use wire::Sequence;
 ghost use mathlib.Core.Path.{_≡_};
 ghost use lib.ListN.{length};
@@ -48,9 +52,9 @@ fn low(x: usize) -> u32 {
 
 // The guest sends bytes back and credits them.
 fn answer(g: GuestSession, bytes: &[u8], reply: &mut [u8]) -> GuestTurn {
-    let sent = guest_send::send(g, bytes, reply, 0);
+    let sent = send::send(g, bytes, reply, 0);
     let sending = sent.session;
-    let credited = guest_send::credit(sending, low(bytes.len()), reply, sent.next);
+    let credited = send::credit(sending, low(bytes.len()), reply, sent.next);
     let guest = credited.session;
     GuestTurn {
         guest,
@@ -60,10 +64,10 @@ fn answer(g: GuestSession, bytes: &[u8], reply: &mut [u8]) -> GuestTurn {
 
 // The guest receives a message and answers it.
 fn guest_turn(g: GuestSession, wire: &[u8], stage: &mut [u8], reply: &mut [u8]) -> GuestTurn {
-    let received = guest_receive::receive(g, wire, stage);
+    let received = fast::receive(g, wire, stage);
     let active = received.session;
     let place = received.place;
-    let bytes = guest_accept::payload(wire, stage, place, received.length);
+    let bytes = guest::accept::payload(wire, stage, place, received.length);
     answer(active, bytes, reply)
 }
 
@@ -90,23 +94,23 @@ fn relay_turn(
     stage: &mut [u8],
     wire: &mut [u8],
 ) -> RelayTurn {
-    let data = parser_push::push(p, reply, stage);
+    let data = push::push(p, reply, stage);
     let record = data.record;
     let place = data.place;
     let bytes = parser::payload(reply, stage, place, record.length);
     let next = rewrite(record, sequence, bytes, wire);
     let waiting = data.parser;
-    let credit = parser_push::push(waiting, cut(reply, data.consumed, reply.len()), stage);
+    let credit = push::push(waiting, cut(reply, data.consumed, reply.len()), stage);
     let parser = credit.parser;
     RelayTurn { parser, next }
 }
 
 // The host receives the echo.
 fn host_turn(h: HostSession, wire: &[u8], stage: &mut [u8], sums: Sums, whole: bool) -> HostTurn {
-    let received = host_receive::receive(h, wire, stage);
+    let received = host::accept::receive(h, wire, stage);
     let place = received.place;
     let host = received.session;
-    let echo = host_receive::payload(wire, stage, place, received.length);
+    let echo = host::accept::payload(wire, stage, place, received.length);
     HostTurn {
         host,
         sums: add_payload(sums, echo, whole),
@@ -125,7 +129,7 @@ fn turn(
     reply: &mut [u8],
 ) -> Link {
     let h = link.host;
-    let sent = host_calls::send(h, message, wire, 0);
+    let sent = calls::send(h, message, wire, 0);
     let g = link.guest;
     let answered = guest_turn(g, cut(wire, 0, sent.next), stage, reply);
     let p = link.parser;

@@ -11,7 +11,7 @@ use borrow.Author.Tests.{eq-eqb}
 use Rattle.wire.specs.Refusals.{pick, passes}
 use Rattle.wire.specs.Header.{headerBytes}
 use Rattle.wire.specs.declared.Refusal.{Refusal}
-use Rattle.types.specs.Types.{codeOf}
+use Rattle.record.specs.Types.{codeOf}
 use Rattle.record.specs.Record.{recordOf}
 use Rattle.parser.specs.Push.{Push, push, headWith, pushStage, pushOf, heldIn, fresh}
 use Rattle.parser.specs.declared.RecordParser.{RecordParser}

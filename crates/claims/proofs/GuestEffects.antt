@@ -10,26 +10,26 @@ use lib.Dec.{leb, eqb}
 use borrow.Author.Tests.{leb-true, eqb-true, ne-eqb}
 use Rattle.wire.specs.Bytes.{Octets}
 use Rattle.wire.specs.Refusals.{refusal, none, first, passes}
-use Rattle.protocol.specs.Outer.{maxPayload, windowOk}
+use Rattle.outer.specs.Outer.{maxPayload, windowOk}
 use Rattle.wire.specs.declared.Refusal.{Refusal}
 use Rattle.wire.proofs.Rows.{Passed, Numbered, passed, picked, and-left, and-right}
-use Rattle.types.specs.Types.{codeOf}
+use Rattle.record.specs.Types.{codeOf}
 use Rattle.parser.specs.Push.{Push, push, pushStage, headWith, heldIn, bufferedOf}
 use Rattle.parser.specs.declared.Place.the-variants.{Piece}
 use Rattle.session.specs.Checks.{noIdentity, identityOf}
-use Rattle.guest.specs.State.{isDetached, isResetting, isActive, isOpen, isEnded, soundGuest, withState, resetGuest, dataGuest, ackGuest, sentGuest}
-use Rattle.guest_checks.specs.Checks.{resetRows, dataRows}
-use Rattle.guest_accept.specs.Receive as R
-use Rattle.guest_writes.specs.Writes as W
-use Rattle.guest_calls.specs.Calls as C
-use Rattle.guest_send.specs.Send as S
-use Rattle.guest_asks.specs.Asks as A
-use Rattle.guest.specs.declared.GuestState.the-variants as State
-use Rattle.guest_accept.specs.declared.GuestEvent.the-variants as Event
-use Rattle.guest.specs.declared.GuestSession.{GuestSession}
-use Rattle.guest_accept.specs.declared.Received.{Received}
-use Rattle.guest_calls.specs.declared.Closed.{Closed}
-use Rattle.guest_asks.specs.declared.WindowAnswer.{WindowAnswer}
+use Rattle.guest_core.specs.State.{isDetached, isResetting, isActive, isOpen, isEnded, soundGuest, withState, resetGuest, dataGuest, ackGuest, sentGuest}
+use Rattle.guest.specs.Checks.{resetRows, dataRows}
+use Rattle.guest.specs.Receive as R
+use Rattle.guest_core.specs.Writes as W
+use Rattle.guest_core.specs.Calls as C
+use Rattle.guest_core.specs.Send as S
+use Rattle.guest_core.specs.Asks as A
+use Rattle.guest_core.specs.declared.GuestState.the-variants as State
+use Rattle.guest.specs.declared.accept.GuestEvent.the-variants as Event
+use Rattle.guest_core.specs.declared.GuestSession.{GuestSession}
+use Rattle.guest.specs.declared.accept.Received.{Received}
+use Rattle.guest_core.specs.declared.control.Closed.{Closed}
+use Rattle.guest_core.specs.declared.asks.WindowAnswer.{WindowAnswer}
 use Rattle.claims.specs.Reading.{heldBytes, Ready, Staged}
 use Rattle.claims.specs.GuestCalls.{Lent, Writing, attach, acknowledge, send, credit, Call, receive, write, disconnect, ask}
 use Rattle.claims.specs.GuestCalls.{Ask, askState, askIdentity, askWindow, askOutstanding, askNeeded}

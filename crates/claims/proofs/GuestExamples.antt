@@ -9,21 +9,21 @@ use lib.Dec.{lit<}
 use Rattle.wire.specs.Bytes.{fromLe, toLe, overlay, Octets, end, octet}
 use Rattle.wire.specs.Refusals.{refusal, none, first}
 use Rattle.wire.specs.Header.{magicOf, versionOf, typeOf, flagsOf, instanceOf, epochOf, sequenceOf, lengthOf, headerBytes}
-use Rattle.protocol.specs.Outer.{windowOk, creditOk, valueOf}
-use Rattle.types.specs.Types.{typeAt, lengthOk}
+use Rattle.outer.specs.Outer.{windowOk, creditOk, valueOf}
+use Rattle.record.specs.Types.{typeAt, lengthOk}
 use Rattle.record.specs.Record.{allZero, payloadChecks, headerChecks, recordWith, recordBytes}
 use Rattle.parser.specs.Push.{countsOk, errorOk, soundParser, finish, pushBody, headWith, pushHead, push}
 use Rattle.parser.specs.declared.Place.the-variants.{Piece}
 use Rattle.session.specs.Checks.{same, identity, noIdentity, identityOk, holds}
-use Rattle.guest.specs.State.{freshGuest, soundGuest}
-use Rattle.guest_accept.specs.Receive as R
-use Rattle.guest_writes.specs.Writes as W
-use Rattle.guest_calls.specs.Calls as C
-use Rattle.guest_send.specs.Send as S
-use Rattle.guest_asks.specs.Asks as A
-use Rattle.guest.specs.declared.GuestState.the-variants as State
-use Rattle.guest_accept.specs.declared.GuestEvent.{GuestEvent}
-use Rattle.guest_accept.specs.declared.GuestEvent.the-variants as Event
+use Rattle.guest_core.specs.State.{freshGuest, soundGuest}
+use Rattle.guest.specs.Receive as R
+use Rattle.guest_core.specs.Writes as W
+use Rattle.guest_core.specs.Calls as C
+use Rattle.guest_core.specs.Send as S
+use Rattle.guest_core.specs.Asks as A
+use Rattle.guest_core.specs.declared.GuestState.the-variants as State
+use Rattle.guest.specs.declared.accept.GuestEvent.{GuestEvent}
+use Rattle.guest.specs.declared.accept.GuestEvent.the-variants as Event
 use Rattle.claims.specs.GuestCalls.{own, other, attach, acknowledge, credit, askState, askOutstanding, Call, receive, write, ask, state, outstanding, Answer, received, sent, told, eventOf, Endpoint, step, fresh}
 use Rattle.claims.specs.GuestHistory.{after, Seen, trace, history, AllOwnOrShorter, noTally, count, noTranscript, transcribe}
 use Rattle.claims.specs.GuestClaims.{ResetRun, answers}

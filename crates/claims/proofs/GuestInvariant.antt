@@ -10,14 +10,14 @@ use lib.Dec.{leb, eqb}
 use borrow.Author.Tests.{leb-true, leb-false, eqb-true, le-leb, eq-eqb, ne-eqb}
 use Rattle.wire.specs.Bytes.{Octets}
 use Rattle.wire.specs.Refusals.{passes}
-use Rattle.protocol.specs.Outer.{maxPayload}
+use Rattle.outer.specs.Outer.{maxPayload}
 use Rattle.wire.proofs.Rows.{and-left, and-right}
 use Rattle.parser.specs.Push.{countsOk, errorOk, soundParser, heldIn}
 use Rattle.parser.specs.declared.RecordParser.{RecordParser}
 use Rattle.session.specs.Checks.{holds}
-use Rattle.guest.specs.State.{code, isDetached, isResetting, isActive, isFailed, isOpen, isLive, isEnded, soundGuest}
-use Rattle.guest.specs.declared.GuestState.{GuestState}
-use Rattle.guest.specs.declared.GuestSession.{GuestSession}
+use Rattle.guest_core.specs.State.{code, isDetached, isResetting, isActive, isFailed, isOpen, isLive, isEnded, soundGuest}
+use Rattle.guest_core.specs.declared.GuestState.{GuestState}
+use Rattle.guest_core.specs.declared.GuestSession.{GuestSession}
 use Rattle.claims.specs.Reading.{Ready}
 use Rattle.claims.proofs.Records.{length-low}
 use Rattle.claims.proofs.Outcomes.{Part, inHead, inBody, part-of}

@@ -7,9 +7,9 @@ use mathlib.Core.List.{List, [], _∷_, _++_}
 use Rattle.wire.specs.Refusals.{none}
 use Rattle.record.specs.Record.{recordOf}
 use Rattle.parser.specs.Push.{parserOf, heldIn}
-use Rattle.guest.specs.State.{isFailed, resetGuest}
-use Rattle.guest_accept.specs.declared.GuestEvent.the-variants as Event
-use Rattle.guest.specs.declared.GuestSession.{GuestSession}
+use Rattle.guest_core.specs.State.{isFailed, resetGuest}
+use Rattle.guest.specs.declared.accept.GuestEvent.the-variants as Event
+use Rattle.guest_core.specs.declared.GuestSession.{GuestSession}
 use Rattle.claims.specs.GuestCalls.{own, other, Call, Answer, eventOf, Endpoint, Step, step, fresh}
 use Rattle.claims.specs.GuestHistory.{after, trace, history, OwnOrShorter, AllOwnOrShorter, Transcript, noTranscript, transcribe}
 use Rattle.claims.specs.GuestClaims.{ResetRun, reached, resetBytes, answers, GuestsAgree}

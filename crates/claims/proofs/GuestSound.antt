@@ -10,15 +10,15 @@ use lib.Dec.{leb, eqb}
 use borrow.Author.Tests.{leb-true, eqb-false, le-leb, lt-leb}
 use Rattle.wire.specs.Bytes.{Octets}
 use Rattle.wire.specs.Refusals.{refusal, none, first, passes}
-use Rattle.protocol.specs.Outer.{maxPayload, windowOk}
+use Rattle.outer.specs.Outer.{maxPayload, windowOk}
 use Rattle.wire.specs.declared.Refusal.{Refusal}
 use Rattle.wire.proofs.Rows.{picked, and-right}
 use Rattle.parser.specs.Push.{parserOf, countsOk, errorOk, soundParser, Push, headTaken, headWith, heldIn}
 use Rattle.parser.specs.declared.RecordParser.{RecordParser}
 use Rattle.session.specs.Checks.{holds}
-use Rattle.guest.specs.State.{freshGuest, soundGuest}
-use Rattle.guest_accept.specs.Receive.{Receive, receiveRows, receive, receiveOf}
-use Rattle.guest.specs.declared.GuestSession.{GuestSession}
+use Rattle.guest_core.specs.State.{freshGuest, soundGuest}
+use Rattle.guest.specs.Receive.{Receive, receiveRows, receive, receiveOf}
+use Rattle.guest_core.specs.declared.GuestSession.{GuestSession}
 use Rattle.claims.specs.GuestCalls.{Call, refusalOf, Endpoint, Step, step, fresh}
 use Rattle.claims.specs.GuestHistory.{after}
 use Rattle.claims.specs.GuestClaims.{AlwaysSound, ShorterRefused}

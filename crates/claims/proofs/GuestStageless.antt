@@ -12,18 +12,18 @@ use lib.Dec.{leb, eqb}
 use borrow.Author.Tests.{leb-true}
 use Rattle.wire.specs.Bytes.{overlay}
 use Rattle.wire.specs.Refusals.{pick, refusal, none, first, passes}
-use Rattle.protocol.specs.Outer.{maxPayload, windowOk}
+use Rattle.outer.specs.Outer.{maxPayload, windowOk}
 use Rattle.wire.specs.declared.Refusal.{Refusal}
 use Rattle.wire.proofs.Rows.{passed, picked}
 use Rattle.parser.specs.Push.{heldIn, payloadAt, bufferedOf}
 use Rattle.session.specs.Checks.{nextRow}
-use Rattle.guest.specs.State.{isDetached, isResetting, isActive, isEnded, soundGuest}
-use Rattle.guest_accept.specs.Receive as R
-use Rattle.guest_writes.specs.Writes as W
-use Rattle.guest_calls.specs.Calls as C
-use Rattle.guest_send.specs.Send as S
-use Rattle.guest.specs.declared.GuestSession.{GuestSession}
-use Rattle.guest_calls.specs.declared.Closed.{Closed}
+use Rattle.guest_core.specs.State.{isDetached, isResetting, isActive, isEnded, soundGuest}
+use Rattle.guest.specs.Receive as R
+use Rattle.guest_core.specs.Writes as W
+use Rattle.guest_core.specs.Calls as C
+use Rattle.guest_core.specs.Send as S
+use Rattle.guest_core.specs.declared.GuestSession.{GuestSession}
+use Rattle.guest_core.specs.declared.control.Closed.{Closed}
 use Rattle.claims.specs.GuestCalls.{own, other, Writing, attach, acknowledge, send, credit, Call, receive, write, disconnect, ask}
 use Rattle.claims.specs.GuestCalls.{Answer, sent, closed, told, receivedAs, Endpoint, endpoint, Step, ruleOf, tell, writeStep, step}
 use Rattle.claims.specs.GuestHistory.{trace, OwnOrShorter, AllOwnOrShorter}

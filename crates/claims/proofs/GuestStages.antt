@@ -7,14 +7,14 @@ use mathlib.Core.List.{List, [], _∷_}
 use lib.ListN.{length}
 use borrow.Author.Tests.{leb-true}
 use Rattle.wire.specs.Refusals.{refusal, first, passes}
-use Rattle.protocol.specs.Outer.{maxPayload}
+use Rattle.outer.specs.Outer.{maxPayload}
 use Rattle.wire.specs.declared.Refusal.{Refusal}
 use Rattle.wire.proofs.Rows.{passed, picked}
-use Rattle.types.specs.Types.{codeOf}
+use Rattle.record.specs.Types.{codeOf}
 use Rattle.parser.specs.Push.{Push, push, pushStage, heldIn, payloadAt}
-use Rattle.guest_checks.specs.Checks.{resetRows, dataRows}
-use Rattle.guest_accept.specs.Receive as R
-use Rattle.guest.specs.declared.GuestSession.{GuestSession}
+use Rattle.guest.specs.Checks.{resetRows, dataRows}
+use Rattle.guest.specs.Receive as R
+use Rattle.guest_core.specs.declared.GuestSession.{GuestSession}
 use Rattle.claims.specs.Reading.{Staged}
 use Rattle.claims.specs.GuestCalls.{own, other, Call, Endpoint, Step, step}
 use Rattle.claims.specs.GuestHistory.{after}

@@ -10,11 +10,11 @@ use lib.Seq.{take-all}
 use lib.Dec.{lit<}
 use Rattle.wire.specs.Bytes.{fromLe, Octets}
 use Rattle.wire.specs.Header.{sequenceOf}
-use Rattle.protocol.specs.Outer.{maxPayload}
+use Rattle.outer.specs.Outer.{maxPayload}
 use Rattle.parser.specs.Push.{heldIn, bufferedOf}
 use Rattle.parser.specs.declared.RecordParser.{RecordParser}
 use Rattle.session.specs.Checks.{identityOf}
-use Rattle.guest.specs.State.{isFailed}
+use Rattle.guest_core.specs.State.{isFailed}
 use Rattle.claims.specs.Reading.{heldBytes, Ready}
 use Rattle.claims.specs.GuestCalls.{own, other, Call, Endpoint, Step, step, fresh}
 use Rattle.claims.specs.GuestHistory.{after, trace, history, OwnOrShorter, AllOwnOrShorter, Transcript, noTranscript, transcribe, dataBytes}

@@ -12,9 +12,9 @@ use Rattle.wire.specs.declared.Refusal.{Refusal}
 use Rattle.record.specs.Record.{recordWith}
 use Rattle.record.specs.declared.Record.{Record}
 use Rattle.parser.specs.Push.{Push, pushStage, payloadAt}
-use Rattle.guest.specs.State.{soundGuest}
-use Rattle.guest_asks.specs.Asks.{outstandingOf}
-use Rattle.guest.specs.declared.GuestSession.{GuestSession}
+use Rattle.guest_core.specs.State.{soundGuest}
+use Rattle.guest_core.specs.Asks.{outstandingOf}
+use Rattle.guest_core.specs.declared.GuestSession.{GuestSession}
 use Rattle.claims.specs.GuestCalls.{Writing, Call, write, sent, Endpoint, Step, step, fresh}
 use Rattle.claims.specs.GuestHistory.{after, trace, history, Tally, noTally, count, countSent}
 use Rattle.claims.specs.GuestClaims.{Sums, SumsHold}

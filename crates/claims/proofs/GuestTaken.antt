@@ -13,15 +13,15 @@ use borrow.Author.Tests.{eqb-true, ltb-true}
 use Rattle.wire.specs.Bytes.{Octets}
 use Rattle.wire.specs.Header.{typeOf, instanceOf, epochOf, sequenceOf, lengthOf}
 use Rattle.wire.proofs.Rows.{Passed, and-left, and-right}
-use Rattle.types.specs.Types.{codeOf, lengthOk}
+use Rattle.record.specs.Types.{codeOf, lengthOk}
 use Rattle.record.specs.Record.{recordBytes, recordWith}
 use Rattle.record.specs.declared.Record.{Record}
 use Rattle.parser.specs.Push.{Push, pushStage, heldIn}
 use Rattle.session.specs.Checks.{same, identity, identityOf}
 use Rattle.session.specs.declared.Identity.{Identity}
-use Rattle.guest.specs.State.{isLive}
-use Rattle.guest_checks.specs.Checks.{resetRows, dataRows}
-use Rattle.guest.specs.declared.GuestSession.{GuestSession}
+use Rattle.guest_core.specs.State.{isLive}
+use Rattle.guest.specs.Checks.{resetRows, dataRows}
+use Rattle.guest_core.specs.declared.GuestSession.{GuestSession}
 use Rattle.claims.specs.Reading.{heldBytes, encoded}
 use Rattle.claims.specs.GuestCalls.{Endpoint}
 use Rattle.claims.specs.GuestHistory.{Transcript, last44, dataBytes, handedBytes}

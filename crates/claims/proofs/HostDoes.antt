@@ -11,14 +11,14 @@ use lib.Dec.{leb}
 use Rattle.wire.specs.Refusals.{first, passes}
 use Rattle.wire.specs.declared.Refusal.{Refusal}
 use Rattle.wire.proofs.Rows.{picked, passed, and-right}
-use Rattle.types.specs.declared.RecordType.{RecordType}
-use Rattle.types.specs.declared.RecordType.the-variants as Kind
+use Rattle.record.specs.declared.types.RecordType.{RecordType}
+use Rattle.record.specs.declared.types.RecordType.the-variants as Kind
 use Rattle.parser.specs.Push.{Push, push, pushStage, heldIn, headWith, payloadAt}
 use Rattle.wire.specs.declared.Sequence.{Sequence}
 use Rattle.session.specs.declared.OptionalIdentity.{OptionalIdentity}
 use Rattle.host.specs.State.{code, isOpen, isBegun}
-use Rattle.host_checks.specs.Checks.{recordRows}
-use Rattle.host_receive.specs.Receive.{Receive, effect, accept, afterPush, receiveRows, receive, receiveStage}
+use Rattle.host.specs.Checks.{recordRows}
+use Rattle.host.specs.Receive.{Receive, effect, accept, afterPush, receiveRows, receive, receiveStage}
 use Rattle.host.specs.declared.HostState.{HostState}
 use Rattle.host.specs.declared.HostSession.{HostSession}
 use Rattle.claims.specs.Reading.{heldBytes, Ready, Staged}

@@ -12,22 +12,22 @@ use Rattle.wire.specs.Refusals.{refusal, first, passes}
 use Rattle.wire.specs.Header.{typeOf, lengthOf}
 use Rattle.wire.specs.declared.Refusal.{Refusal}
 use Rattle.wire.proofs.Rows.{picked, and-left, and-right}
-use Rattle.types.specs.Types.{codeOf}
+use Rattle.record.specs.Types.{codeOf}
 use Rattle.record.specs.Record.{headerChecks, payloadChecks}
-use Rattle.types.specs.declared.RecordType.{RecordType}
-use Rattle.types.specs.declared.RecordType.the-variants as Kind
+use Rattle.record.specs.declared.types.RecordType.{RecordType}
+use Rattle.record.specs.declared.types.RecordType.the-variants as Kind
 use Rattle.record.specs.declared.Record.{Record}
 use Rattle.parser.specs.Push.{countsOk, errorOk, soundParser, Push, finish, bodyTaken, pushBody, headTaken, headWith, pushHead, pushRows, push, heldIn, bufferedOf}
 use Rattle.parser.specs.declared.RecordParser.{RecordParser}
 use Rattle.parser.specs.declared.Place.{Place}
 use Rattle.session.specs.declared.Identity.{Identity}
 use Rattle.host.specs.State.{isBegun, soundHost}
-use Rattle.host_checks.specs.Checks.{typeRows, recordRows}
-use Rattle.host_receive.specs.Receive as Receive
-use Rattle.host_asks.specs.Asks as Asks
-use Rattle.host_calls.specs.Calls as Calls
+use Rattle.host.specs.Checks.{typeRows, recordRows}
+use Rattle.host.specs.Receive as Receive
+use Rattle.host.specs.Asks as Asks
+use Rattle.host.specs.Calls as Calls
 use Rattle.host.specs.declared.HostSession.{HostSession}
-use Rattle.host_calls.specs.declared.Closed.{Closed}
+use Rattle.host.specs.declared.calls.Closed.{Closed}
 use Rattle.claims.specs.HostCalls.{HostCall, attach, receive, receiveShort, send, disconnect, askState, askIdentity, askNeeded, refusalOf, step, reply, after, freshPlace}
 use Rattle.claims.proofs.ParserSound.{header-low, payload-low}
 use Rattle.claims.proofs.HostSound.{fit-reached, always-sound}

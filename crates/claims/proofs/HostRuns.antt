@@ -14,12 +14,12 @@ use Rattle.wire.proofs.Rows.{picked, passed}
 use Rattle.parser.specs.Push.{soundParser, countsOk, errorOk, heldIn, bufferedOf}
 use Rattle.session.specs.Checks.{nextRow}
 use Rattle.host.specs.State.{code, isDetached, isAttached, isBegun, soundHost, withState, sentHost}
-use Rattle.host_receive.specs.Receive as Receive
-use Rattle.host_calls.specs.Calls as Calls
+use Rattle.host.specs.Receive as Receive
+use Rattle.host.specs.Calls as Calls
 use Rattle.host.specs.declared.HostState.{HostState}
 use Rattle.host.specs.declared.HostState.the-variants as State
 use Rattle.host.specs.declared.HostSession.{HostSession}
-use Rattle.host_calls.specs.declared.Closed.{Closed}
+use Rattle.host.specs.declared.calls.Closed.{Closed}
 use Rattle.claims.specs.Reading.{Ready}
 use Rattle.claims.specs.HostCalls.{HostCall, wrote, got, HostReply, HostStep, placed, sending, receiving, step, next, freshPlace, compared, seen, replies}
 use Rattle.claims.specs.HostCalls.{HostLike, attaches, receives, shorts, sends, disconnects, asksState, asksIdentity, asksNeeded, HostLikes, nothing, also}

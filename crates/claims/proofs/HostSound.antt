@@ -9,18 +9,18 @@ use lib.Dec.{eqb}
 use Rattle.wire.specs.Refusals.{refusal, first, passes}
 use Rattle.wire.specs.declared.Refusal.{Refusal}
 use Rattle.wire.proofs.Rows.{picked, passed}
-use Rattle.types.specs.Types.{codeOf}
-use Rattle.types.specs.declared.RecordType.{RecordType}
-use Rattle.types.specs.declared.RecordType.the-variants as Kind
+use Rattle.record.specs.Types.{codeOf}
+use Rattle.record.specs.declared.types.RecordType.{RecordType}
+use Rattle.record.specs.declared.types.RecordType.the-variants as Kind
 use Rattle.record.specs.declared.Record.{Record}
 use Rattle.parser.specs.Push.{soundParser, countsOk, errorOk, Push, push, heldIn, bufferedOf}
 use Rattle.session.specs.Checks.{holds, sequenceRow, nextRow}
 use Rattle.host.specs.State.{isAttached, isBegun, soundHost}
-use Rattle.host_checks.specs.Checks.{allowed, typeRows, recordRows}
-use Rattle.host_receive.specs.Receive.{Receive, effect, accept, afterPush, receiveRows, receive, receiveOf}
-use Rattle.host_calls.specs.Calls as Calls
+use Rattle.host.specs.Checks.{allowed, typeRows, recordRows}
+use Rattle.host.specs.Receive.{Receive, effect, accept, afterPush, receiveRows, receive, receiveOf}
+use Rattle.host.specs.Calls as Calls
 use Rattle.host.specs.declared.HostSession.{HostSession}
-use Rattle.host_calls.specs.declared.Closed.{Closed}
+use Rattle.host.specs.declared.calls.Closed.{Closed}
 use Rattle.claims.specs.HostCalls.{HostCall, attach, receiveShort, send, disconnect, askState, askIdentity, askNeeded, HostPlace, step, next, after, freshPlace}
 use Rattle.claims.specs.HostCalls as Call
 use Rattle.claims.proofs.Outcomes.{true-not-false}

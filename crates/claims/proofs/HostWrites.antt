@@ -15,7 +15,7 @@ use Rattle.wire.specs.declared.Refusal.{Refusal}
 use Rattle.wire.proofs.Rows.{picked}
 use Rattle.wire.proofs.Headers.{header-length}
 use Rattle.record.specs.Record.{recordBytes}
-use Rattle.host_calls.specs.Calls.{Outcome, writes}
+use Rattle.host.specs.Calls.{Outcome, writes}
 use Rattle.host.specs.declared.HostSession.{HostSession}
 use Rattle.claims.proofs.Outcomes.{picked₂}
 use Rattle.claims.proofs.HostDoes.{Lands}

@@ -28,3 +28,11 @@ pub mod HostWrites
 pub mod HostRuns
 pub mod HostNever
 pub mod Demand3
+pub mod Payloads
+pub mod ExampleLaws
+pub mod Scanned
+pub mod Futures
+pub mod Runs
+pub mod OneCall
+pub mod Reached
+pub mod Claims

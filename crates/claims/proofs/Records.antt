@@ -13,20 +13,20 @@ use borrow.Author.Tests.{le-ltb, eqb-true}
 use Rattle.wire.specs.Bytes.{fromLe, Octets}
 use Rattle.wire.specs.Refusals.{refusal, none, first, passes}
 use Rattle.wire.specs.Header.{magic, magicOf, versionOf, typeOf, flagsOf, instanceOf, epochOf, sequenceOf, lengthOf, headerBytes}
-use Rattle.protocol.specs.Outer.{headerOf, outerOk, decodeOuterHeader}
-use Rattle.protocol.specs.Outer as Outer
+use Rattle.outer.specs.Outer.{headerOf, outerOk, decodeOuterHeader}
+use Rattle.outer.specs.Outer as Outer
 use Rattle.wire.specs.declared.Refusal.{Refusal}
-use Rattle.protocol.specs.declared.OuterHeader.{OuterHeader}
-use Rattle.protocol.specs.declared.DecodedHeader.{DecodedHeader}
+use Rattle.outer.specs.declared.OuterHeader.{OuterHeader}
+use Rattle.outer.specs.declared.DecodedHeader.{DecodedHeader}
 use Rattle.wire.proofs.Rows.{Passed, passed, pass-all, picked, and-left, and-right}
 use Rattle.wire.proofs.Headers.{header-length, header-back}
-use Rattle.protocol.proofs.RoundTrips.{fieldsOf, header-decodes}
-use Rattle.types.specs.Types.{codeOf, typeAt, typeOk, lengthOk}
+use Rattle.outer.proofs.RoundTrips.{fieldsOf, header-decodes}
+use Rattle.record.specs.Types.{codeOf, typeAt, typeOk, lengthOk}
 use Rattle.record.specs.Record.{headerRows, headerChecks, payloadRows, payloadChecks, bootstrapRow, recordRows, recordBytes, recordOf, recordWith, typeFrom}
-use Rattle.types.specs.declared.RecordType.{RecordType}
-use Rattle.types.specs.declared.TypeLookup.{TypeLookup}
-use Rattle.types.specs.declared.TypeLookup.the-variants.{Known, Unknown}
-use Rattle.types.proofs.Cases.{known-code, unknown-code, code-low, code-type, length-limit}
+use Rattle.record.specs.declared.types.RecordType.{RecordType}
+use Rattle.record.specs.declared.types.TypeLookup.{TypeLookup}
+use Rattle.record.specs.declared.types.TypeLookup.the-variants.{Known, Unknown}
+use Rattle.record.proofs.TypesCases.{known-code, unknown-code, code-low, code-type, length-limit}
 use Rattle.claims.specs.Reading.{recordFrom, encoded}
 use Rattle.claims.proofs.Scans.{whole, scan, scanValue, scanBody, scanHeader, scan-cut}
 

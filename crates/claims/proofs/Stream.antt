@@ -11,10 +11,10 @@ use borrow.Author.Tests.{le-leb}
 use Rattle.wire.specs.Bytes.{overlay, Octets}
 use Rattle.wire.specs.Refusals.{pick, refusal, none, first, passes}
 use Rattle.wire.specs.Header.{typeOf, lengthOf}
-use Rattle.protocol.specs.Outer.{outcome, write}
+use Rattle.outer.specs.Outer.{outcome, write}
 use Rattle.wire.specs.declared.Refusal.{Refusal}
 use Rattle.wire.proofs.Rows.{passed, pass-all}
-use Rattle.types.specs.Types.{codeOf}
+use Rattle.record.specs.Types.{codeOf}
 use Rattle.record.specs.Record.{headerChecks, payloadChecks, recordOf, recordWith, recordRows, encodeRows, encodeRecord}
 use Rattle.record.specs.declared.Record.{Record}
 use Rattle.parser.specs.Push.{parserOf, countsOk, errorOk, soundParser, Push, headTaken, headWith, push}

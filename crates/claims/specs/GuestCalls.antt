@@ -9,21 +9,21 @@ use Rattle.parser.specs.Push.{payloadAt}
 use Rattle.parser.specs.declared.Place.{Place}
 use Rattle.parser.specs.declared.Count.{Count}
 use Rattle.session.specs.declared.Identity.{Identity}
-use Rattle.guest.specs.State.{freshGuest}
-use Rattle.guest_accept.specs.Receive as Receive
-use Rattle.guest_writes.specs.Writes as Writes
-use Rattle.guest_calls.specs.Calls as Calls
-use Rattle.guest_send.specs.Send as Sends
-use Rattle.guest_asks.specs.Asks as Asks
-use Rattle.guest_accept.specs.declared.GuestEvent.{GuestEvent}
-use Rattle.guest_accept.specs.declared.GuestEvent.the-variants as Event
-use Rattle.guest.specs.declared.GuestSession.{GuestSession}
-use Rattle.guest_accept.specs.declared.Received.{Received}
-use Rattle.guest_calls.specs.declared.Closed.{Closed}
-use Rattle.guest_asks.specs.declared.StateAnswer.{StateAnswer}
-use Rattle.guest_asks.specs.declared.IdentityAnswer.{IdentityAnswer}
-use Rattle.guest_asks.specs.declared.WindowAnswer.{WindowAnswer}
-use Rattle.guest_asks.specs.declared.OutstandingAnswer.{OutstandingAnswer}
+use Rattle.guest_core.specs.State.{freshGuest}
+use Rattle.guest.specs.Receive as Receive
+use Rattle.guest_core.specs.Writes as Writes
+use Rattle.guest_core.specs.Calls as Calls
+use Rattle.guest_core.specs.Send as Sends
+use Rattle.guest_core.specs.Asks as Asks
+use Rattle.guest.specs.declared.accept.GuestEvent.{GuestEvent}
+use Rattle.guest.specs.declared.accept.GuestEvent.the-variants as Event
+use Rattle.guest_core.specs.declared.GuestSession.{GuestSession}
+use Rattle.guest.specs.declared.accept.Received.{Received}
+use Rattle.guest_core.specs.declared.control.Closed.{Closed}
+use Rattle.guest_core.specs.declared.asks.StateAnswer.{StateAnswer}
+use Rattle.guest_core.specs.declared.asks.IdentityAnswer.{IdentityAnswer}
+use Rattle.guest_core.specs.declared.asks.WindowAnswer.{WindowAnswer}
+use Rattle.guest_core.specs.declared.asks.OutstandingAnswer.{OutstandingAnswer}
 
 -- ---- calls
 -- the stage that a receive is lent: the session's own, or another

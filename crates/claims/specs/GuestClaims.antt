@@ -8,14 +8,14 @@ use lib.ListN.{length}
 use Rattle.wire.specs.Bytes.{Octets}
 use Rattle.wire.specs.Refusals.{refusal, none, passes}
 use Rattle.wire.specs.Header.{typeOf, sequenceOf, lengthOf}
-use Rattle.protocol.specs.Outer.{maxPayload}
+use Rattle.outer.specs.Outer.{maxPayload}
 use Rattle.record.specs.Record.{headerChecks}
 use Rattle.parser.specs.Push.{bufferedOf}
-use Rattle.guest.specs.State.{isFailed, soundGuest}
-use Rattle.guest_asks.specs.Asks.{outstandingOf}
-use Rattle.guest_accept.specs.declared.GuestEvent.the-variants as Event
-use Rattle.guest.specs.declared.GuestSession.{GuestSession}
-use Rattle.guest_asks.specs.declared.OutstandingAnswer.{OutstandingAnswer}
+use Rattle.guest_core.specs.State.{isFailed, soundGuest}
+use Rattle.guest_core.specs.Asks.{outstandingOf}
+use Rattle.guest.specs.declared.accept.GuestEvent.the-variants as Event
+use Rattle.guest_core.specs.declared.GuestSession.{GuestSession}
+use Rattle.guest_core.specs.declared.asks.OutstandingAnswer.{OutstandingAnswer}
 use Rattle.claims.specs.GuestCalls.{own, other, Writing, Ask, Call, receive, write, disconnect, ask, Answer, refusalOf, eventOf, Endpoint, step, fresh}
 use Rattle.claims.specs.GuestHistory.{after, Seen, trace, history, AllOwnOrShorter, Tally, noTally, count, Transcript, noTranscript, transcribe, handedBytes}
 

@@ -5,10 +5,10 @@ use mathlib.Core.List.{List, [], _∷_, _++_}
 use lib.ListN.{length, take, drop}
 use Rattle.wire.specs.Refusals.{pick, passes}
 use Rattle.wire.specs.Header.{instanceOf, epochOf, sequenceOf}
-use Rattle.protocol.specs.Outer.{maxPayload}
+use Rattle.outer.specs.Outer.{maxPayload}
 use Rattle.record.specs.Record.{recordBytes}
-use Rattle.guest_accept.specs.declared.GuestEvent.{GuestEvent}
-use Rattle.guest_accept.specs.declared.GuestEvent.the-variants as Event
+use Rattle.guest.specs.declared.accept.GuestEvent.{GuestEvent}
+use Rattle.guest.specs.declared.accept.GuestEvent.the-variants as Event
 use Rattle.claims.specs.GuestCalls.{own, other, Writing, attach, acknowledge, send, credit, Call, receive, write, disconnect, ask}
 use Rattle.claims.specs.GuestCalls.{Answer, refusalOf, eventOf, consumedOf, payloadOf, Endpoint, step}
 

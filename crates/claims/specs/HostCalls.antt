@@ -12,13 +12,13 @@ use Rattle.parser.specs.declared.Place.{Place}
 use Rattle.parser.specs.declared.Count.{Count}
 use Rattle.session.specs.declared.Identity.{Identity}
 use Rattle.host.specs.State.{freshHost, soundHost}
-use Rattle.host_receive.specs.Receive as Receive
-use Rattle.host_asks.specs.Asks as Asks
-use Rattle.host_calls.specs.Calls as Calls
-use Rattle.host_receive.specs.declared.HostEvent.{HostEvent}
+use Rattle.host.specs.Receive as Receive
+use Rattle.host.specs.Asks as Asks
+use Rattle.host.specs.Calls as Calls
+use Rattle.host.specs.declared.accept.HostEvent.{HostEvent}
 use Rattle.host.specs.declared.HostSession.{HostSession}
-use Rattle.host_asks.specs.declared.StateAnswer.{StateAnswer}
-use Rattle.host_asks.specs.declared.IdentityAnswer.{IdentityAnswer}
+use Rattle.host.specs.declared.asks.StateAnswer.{StateAnswer}
+use Rattle.host.specs.declared.asks.IdentityAnswer.{IdentityAnswer}
 
 -- ---- calls and answers
 pub data HostCall : Type 0 where

@@ -4,3 +4,6 @@ pub mod GuestHistory
 pub mod GuestClaims
 pub mod HostCalls
 pub mod Demand3
+pub mod Examples
+pub mod Example
+pub mod Claims

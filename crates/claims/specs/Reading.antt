@@ -8,12 +8,12 @@ use lib.ListN.{length, take, drop}
 use lib.Dec.{eqb}
 use Rattle.wire.specs.Bytes.{overlay, Octets}
 use Rattle.wire.specs.Refusals.{pick, none, first, passes}
-use Rattle.protocol.specs.Outer as Outer
-use Rattle.protocol.specs.Outer.{maxPayload}
+use Rattle.outer.specs.Outer as Outer
+use Rattle.outer.specs.Outer.{maxPayload}
 use Rattle.wire.specs.declared.Refusal.{Refusal}
-use Rattle.types.specs.Types.{codeOf}
+use Rattle.record.specs.Types.{codeOf}
 use Rattle.record.specs.Record.{recordRows, recordBytes, encodeRecord}
-use Rattle.types.specs.declared.RecordType.{RecordType}
+use Rattle.record.specs.declared.types.RecordType.{RecordType}
 use Rattle.record.specs.declared.Record.{Record}
 use Rattle.parser.specs.Push.{soundParser, Push, stopped, push, pushStage, Outcome, pushOf, fresh, heldIn, payloadAt, neededOf, bufferedOf}
 use Rattle.parser.specs.declared.RecordParser.{RecordParser}

@@ -1,1 +1,3 @@
-pub mod Soundness
+pub mod Checking
+pub mod Receiving
+pub mod Flowing

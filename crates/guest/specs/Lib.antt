@@ -1,1 +1,3 @@
-pub mod State
+pub mod Checks
+pub mod Receive
+pub mod Flow

@@ -1,1 +1,5 @@
 pub mod State
+pub mod Asks
+pub mod Checks
+pub mod Calls
+pub mod Receive

@@ -1,6 +1,11 @@
 // The host's session by value (nvxs/host.rs), and whether it is sound. `host_asks` has what it
 // answers when asked, `host_checks` what stops a record, `host_receive` its receive, and
 // `host_calls` its other calls.
+pub mod accept;
+pub mod asks;
+pub mod calls;
+pub mod checks;
+
 use parser::RecordParser;
 use session::OptionalIdentity;
 use session::no_identity;

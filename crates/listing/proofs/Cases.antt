@@ -9,28 +9,28 @@ use lib.Dec.{leb}
 use borrow.Author.Tests.{le-leb, leb-true, eq-eqb, ne-eqb, not-true, not-false}
 use Rattle.wire.specs.Bytes.{overlay}
 use Rattle.wire.specs.Refusals.{pick, refusal, none, passes}
-use Rattle.protocol.specs.Outer.{valueOf}
+use Rattle.outer.specs.Outer.{valueOf}
 use Rattle.wire.specs.declared.Refusal.{Refusal}
 use Rattle.wire.proofs.Rows.{picked, and-left, and-right}
-use Rattle.types.specs.Types.{codeOf}
+use Rattle.record.specs.Types.{codeOf}
 use Rattle.parser.specs.Push as parser
 use Rattle.parser.specs.Push.{soundParser, pushOf, push, heldIn, bufferedOf, counted, payloadAt}
 use Rattle.parser.specs.declared.Count.{Count}
 use Rattle.parser.specs.declared.Pushed.{Pushed}
 use Rattle.parser.specs.declared.RecordParser.{RecordParser}
-use Rattle.decimal.specs.Decimal.{Placed, placed}
-use Rattle.lines.specs.Lines.{line, putText}
-use Rattle.lines.proofs.Texts.{text-puts}
-use Rattle.reach.specs.Reach.{limit, addsUp, refusedBytes, reached}
-use Rattle.reach.proofs.Sums.{adds-low}
+use Rattle.text.specs.Decimal.{Placed, placed}
+use Rattle.text.specs.Lines.{line, putText}
+use Rattle.text.proofs.Texts.{text-puts}
+use Rattle.listing.specs.Reach.{limit, addsUp, refusedBytes, reached}
+use Rattle.listing.proofs.Sums.{adds-low}
 use Rattle.listing.specs.Listing.{openAfter}
-use Rattle.settle.specs.Settled.{settled, isSettled}
+use Rattle.listing.specs.Settled.{settled, isSettled}
 use Rattle.listing.specs.Steps.{listingOf, readOf, soundListing, listed, Outcome, outcome, opens, lineOf, recordListed, pushed, stepOf}
 use Rattle.listing.specs.declared.Listing.{Listing}
 use Rattle.listing.specs.declared.Listed.{Listed}
 use Rattle.listing.proofs.Kept.{keeps}
 use Rattle.listing.proofs.Counts.{Came, came}
-use Rattle.settle.proofs.Settled.{settled-number, settled-sound, settled-held, settles}
+use Rattle.listing.proofs.Settled.{settled-number, settled-sound, settled-held, settles}
 
 -- ---- soundness
 module _ (s : Listing) (c : Count) (e : c ≡ counted (s .parser) (bufferedOf (s .parser))) where

@@ -14,18 +14,18 @@ use Rattle.wire.specs.Refusals.{pick, none, first, passes}
 use Rattle.wire.specs.Header.{typeOf, lengthOf}
 use Rattle.wire.specs.declared.Refusal.{Refusal}
 use Rattle.wire.proofs.Rows.{passed, pass-all, picked, and-left, and-right}
-use Rattle.protocol.specs.Outer.{valueOf, windowOk, creditOk}
-use Rattle.types.specs.Types.{codeOf, lengthOk}
+use Rattle.outer.specs.Outer.{valueOf, windowOk, creditOk}
+use Rattle.record.specs.Types.{codeOf, lengthOk}
 use Rattle.record.specs.Record.{headerRows, headerChecks, payloadRows, payloadChecks, recordWith, recordOf}
 use Rattle.parser.specs.Push.{countsOk, errorOk, soundParser, Push, failed, finish, bodyTaken, pushBody, headTaken, headWith, pushHead, pushRows, push, bufferedOf}
 use Rattle.parser.specs.declared.RecordParser.{RecordParser}
 use Rattle.parser.specs.declared.Place.{Place}
 use Rattle.parser.specs.declared.Place.the-variants.{Piece, Stage}
 use Rattle.parser.specs.declared.Pushed.{Pushed}
-use Rattle.parts.proofs.Parts.{overlay-nothing}
+use Rattle.wire.proofs.PartLaws.{overlay-nothing}
 use Rattle.parser.proofs.Cases.{type-code}
-use Rattle.reach.specs.Reach.{refusedBytes}
-use Rattle.reach.proofs.Sums.{refused-header, refused-all}
+use Rattle.listing.specs.Reach.{refusedBytes}
+use Rattle.listing.proofs.Sums.{refused-header, refused-all}
 
 -- a push of a parser that holds b bytes, or read w of a refused record, lent a piece of n
 pub record Came (b w n : ℕ) (a : Pushed) : Type 0 where

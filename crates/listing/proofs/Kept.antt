@@ -9,10 +9,10 @@ use native.Mathlib.Decide.{decLe, decLt}
 use lib.Dec.{eqb, leb}
 use borrow.Author.Tests.{leb-true, eqb-true, eqb-false}
 use Rattle.wire.proofs.Rows.{picked, and-right}
-use Rattle.protocol.specs.Outer.{valueOf}
-use Rattle.types.specs.Types.{lengthOk}
-use Rattle.reach.specs.Reach.{dataNeeded, dataBytes, spare, addsUp}
-use Rattle.reach.proofs.Sums.{Rest, nothing, plain, attach, many, value, Sum, sum-of, sum-is}
+use Rattle.outer.specs.Outer.{valueOf}
+use Rattle.record.specs.Types.{lengthOk}
+use Rattle.listing.specs.Reach.{dataNeeded, dataBytes, spare, addsUp}
+use Rattle.listing.proofs.Sums.{Rest, nothing, plain, attach, many, value, Sum, sum-of, sum-is}
 use Rattle.listing.specs.Listing.{openAfter}
 
 -- ---- a record more

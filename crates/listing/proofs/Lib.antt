@@ -3,3 +3,5 @@ pub mod Counts
 pub mod Cases
 pub mod Lines
 pub mod Bounds
+pub mod Sums
+pub mod Settled

@@ -9,16 +9,16 @@ use lib.ListN.{length, take, drop, length-drop}
 use lib.Dec.{leb}
 use borrow.Author.Tests.{le-leb, lt-leb, lt-ltb, le-ltb, eq-eqb, ne-eqb, not-true, not-false}
 use Rattle.wire.specs.Refusals.{pick, refusal, none, first, passes}
-use Rattle.protocol.specs.Outer.{write}
-use Rattle.protocol.specs.Outer as outer
+use Rattle.outer.specs.Outer.{write}
+use Rattle.outer.specs.Outer as outer
 use Rattle.wire.specs.declared.Refusal.{Refusal}
 use Rattle.wire.proofs.Rows.{pass-all, row-stops, row-passes}
 use Rattle.parser.specs.Push.{bufferedOf}
-use Rattle.parts.proofs.Parts.{part-end, take-min}
-use Rattle.decimal.specs.Decimal.{placed}
-use Rattle.lines.specs.Lines.{names, ending, putText}
-use Rattle.lines.proofs.Texts.{text-puts}
-use Rattle.reach.specs.Reach.{limit}
+use Rattle.wire.proofs.PartLaws.{part-end, take-min}
+use Rattle.text.specs.Decimal.{placed}
+use Rattle.text.specs.Lines.{names, ending, putText}
+use Rattle.text.proofs.Texts.{text-puts}
+use Rattle.listing.specs.Reach.{limit}
 use Rattle.listing.specs.Steps.{readOf, soundListing, listed, Outcome, outcome, stepOf, further, lines, soundRow, roomRow, listRows, readable, listOf, namesOf, endLine, endOf}
 use Rattle.listing.specs.declared.Listing.{Listing}
 use Rattle.listing.specs.declared.Listed.{Listed}

@@ -5,8 +5,8 @@ use mathlib.Core.Bool.{false}
 use mathlib.Core.List.{List, [], _∷_, _++_}
 use lib.ListN.{length, take, drop}
 use Rattle.wire.specs.Refusals.{passes}
-use Rattle.reach.specs.Reach.{limit}
-use Rattle.lines.specs.Lines.{lineRoom}
+use Rattle.listing.specs.Reach.{limit}
+use Rattle.text.specs.Lines.{lineRoom}
 use Rattle.listing.specs.Steps.{Outcome, readOf, listOf}
 use Rattle.listing.specs.declared.Listing.{Listing}
 

@@ -1,3 +1,5 @@
 pub mod Listing
 pub mod Steps
 pub mod Calls
+pub mod Reach
+pub mod Settled

@@ -5,10 +5,10 @@ use lib.ListN.{length, take, drop}
 use lib.Dec.{eqb, ltb}
 use Rattle.wire.specs.Refusals.{pick, passes}
 use Rattle.wire.specs.Header.{typeOf, epochOf, sequenceOf, lengthOf}
-use Rattle.protocol.specs.Outer.{valueOf}
+use Rattle.outer.specs.Outer.{valueOf}
 use Rattle.record.specs.Record.{headerChecks, payloadChecks}
-use Rattle.lines.specs.Lines.{names, line, ending}
-use Rattle.reach.specs.Reach.{limit}
+use Rattle.text.specs.Lines.{names, line, ending}
+use Rattle.listing.specs.Reach.{limit}
 
 -- ---- open
 -- 0 after a RESET (3); a DATA (5) adds its length; a CREDIT (9) takes off its value, or all of open if that is less

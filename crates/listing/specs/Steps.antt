@@ -6,18 +6,18 @@ use lib.ListN.{length, take, drop}
 use lib.Dec.{leb, ltb}
 use Rattle.wire.specs.Bytes.{overlay}
 use Rattle.wire.specs.Refusals.{pick, refusal, none, first, passes}
-use Rattle.protocol.specs.Outer as outer
-use Rattle.protocol.specs.Outer.{maxPayload, write}
+use Rattle.outer.specs.Outer as outer
+use Rattle.outer.specs.Outer.{maxPayload, write}
 use Rattle.wire.specs.declared.Refusal.{Refusal}
-use Rattle.types.specs.Types.{codeOf}
+use Rattle.record.specs.Types.{codeOf}
 use Rattle.record.specs.declared.Record.{Record}
 use Rattle.parser.specs.Push as parser
 use Rattle.parser.specs.Push.{soundParser, pushOf, bufferedOf, payloadAt}
 use Rattle.parser.specs.declared.RecordParser.{RecordParser}
 use Rattle.parser.specs.declared.Pushed.{Pushed}
-use Rattle.reach.specs.Reach.{limit, addsUp, refusedBytes}
-use Rattle.settle.specs.Settled.{settled, isSettled}
-use Rattle.lines.specs.Lines.{lineRoom, names, line, ending}
+use Rattle.listing.specs.Reach.{limit, addsUp, refusedBytes}
+use Rattle.listing.specs.Settled.{settled, isSettled}
+use Rattle.text.specs.Lines.{lineRoom, names, line, ending}
 use Rattle.listing.specs.Listing.{openAfter}
 use Rattle.listing.specs.declared.Listing.{Listing}
 use Rattle.listing.specs.declared.Listed.{Listed}

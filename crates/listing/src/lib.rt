@@ -1,15 +1,19 @@
 // The link listing (01): its state by value, whether it is sound, the line of names and the last
 // line, and its rules.
-use lines::LINE;
-use lines::put_ending;
-use lines::put_names;
+pub mod list;
+pub mod reach;
+pub mod settle;
+
+use crate::reach::reached;
+use crate::settle::is_settled;
+use outer::Written;
 use parser::RecordParser;
-use protocol::Written;
-use reach::reached;
-use settle::is_settled;
+use text::lines::LINE;
+use text::lines::put_ending;
+use text::lines::put_names;
 use wire::Refusal;
 ghost use mathlib.Core.Path.{_≡_};
-ghost use Rattle.protocol.specs.Outer as outer;
+ghost use Rattle.outer.specs.Outer as outer;
 ghost use Rattle.listing.specs.Steps.{fresh, soundListing, namesOf, endOf};
 
 // The record under way in its parser, its offset in the capture, and 01's open before it. Between
@@ -20,7 +24,7 @@ pub struct Listing {
     pub open: u64,
 }
 
-// What `listing_list::list` answers: the bytes taken of the piece, the bytes written at the start of
+// What `listing::list::list` answers: the bytes taken of the piece, the bytes written at the start of
 // the output, and the listing after it. A refusal of 1 to 9 is the capture's own, and ends it.
 pub struct Listed {
     pub refusal: Refusal,

@@ -6,8 +6,8 @@ use mathlib.Core.List.{List, [], _∷_, _++_, append-nil}
 use native.Mathlib.Omega.{arith}
 use lib.ListN.{length, take, drop, length-drop, drop-of-length-le}
 use lib.Seq.{drop-drop}
-use Rattle.parts.proofs.Parts.{part-end}
-use Rattle.lines.specs.Lines.{lineRoom}
+use Rattle.wire.proofs.PartLaws.{part-end}
+use Rattle.text.specs.Lines.{lineRoom}
 use Rattle.listing.specs.Steps.{Outcome, outcome, listOf}
 use Rattle.listing.specs.Calls.{Calls, stop, call, written}
 use Rattle.listing.specs.declared.Listing.{Listing}

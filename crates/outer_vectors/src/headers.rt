@@ -1,9 +1,9 @@
 // decode_outer_header: the fields it reads, and refusals 25 and 26.
-use header_bytes::encode_header;
-use protocol::OuterHeader;
-use protocol::decode_outer_header;
+use outer::OuterHeader;
+use outer::decode_outer_header;
 use wire::Epoch;
 use wire::Sequence;
+use wire::header::encode_header;
 
 // One header's bytes, and its fields or the refusal.
 pub fn decode(header: [u8; 44]) {

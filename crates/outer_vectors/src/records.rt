@@ -1,6 +1,6 @@
 // encode_outer: the bytes it writes, and refusals 22 and 24.
 use crate::headers::decode;
-use protocol::encode_outer;
+use outer::encode_outer;
 use wire::Epoch;
 use wire::Sequence;
 ghost use Prim.Native.Nat.{_≤_};

@@ -16,19 +16,19 @@ use Rattle.wire.specs.Header.{typeOf, lengthOf}
 use Rattle.wire.specs.declared.Refusal.{Refusal}
 use Rattle.wire.proofs.Overlays.{copied-fits, take-overlay}
 use Rattle.wire.proofs.Rows.{and-left, and-right, passed, pass-all, row-stops, row-passes}
-use Rattle.types.specs.Types.{codeOf, typeAt, typeOk}
+use Rattle.record.specs.Types.{codeOf, typeAt, typeOk}
 use Rattle.record.specs.Record.{headerRows, headerChecks, payloadChecks, recordWith, recordOf, typeFrom, noRecord}
-use Rattle.types.specs.declared.TypeLookup.{TypeLookup}
-use Rattle.types.specs.declared.TypeLookup.the-variants.{Known, Unknown}
+use Rattle.record.specs.declared.types.TypeLookup.{TypeLookup}
+use Rattle.record.specs.declared.types.TypeLookup.the-variants.{Known, Unknown}
 use Rattle.record.specs.declared.Record.{Record}
-use Rattle.types.proofs.Cases.{known-code, unknown-code, length-limit}
+use Rattle.record.proofs.TypesCases.{known-code, unknown-code, length-limit}
 use Rattle.parser.specs.declared.RecordParser.{RecordParser}
 use Rattle.parser.specs.declared.Place.{Place}
 use Rattle.parser.specs.declared.Place.the-variants.{Piece, Stage}
 use Rattle.parser.specs.declared.Pushed.{Pushed}
 use Rattle.parser.specs.Push.{parserOf, countsOk, errorOk, soundParser, clear, stopped, waiting, failed, completed, finish, bodyTaken, pushBody, headTaken, headWith, pushHead, pushRows, push}
 use Rattle.parser.specs.Push.{bodyStage, headStage, pushStage, heldIn, Outcome, outcome, pushOf, payloadAt, neededOf, bufferedOf, counted}
-use Rattle.parts.proofs.Parts.{part-end, overlay-nothing, take-none}
+use Rattle.wire.proofs.PartLaws.{part-end, overlay-nothing, take-none}
 
 -- ---- soundness
 module _ (h : List ℕ) (n k : ℕ) where

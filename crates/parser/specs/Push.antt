@@ -8,7 +8,7 @@ use lib.Dec.{eqb, leb, ltb}
 use Rattle.wire.specs.Bytes.{overlay}
 use Rattle.wire.specs.Refusals.{pick, refusal, none, first, passes}
 use Rattle.wire.specs.Header.{typeOf, lengthOf}
-use Rattle.protocol.specs.Outer.{maxPayload}
+use Rattle.outer.specs.Outer.{maxPayload}
 use Rattle.wire.specs.declared.Refusal.{Refusal}
 use Rattle.record.specs.Record.{headerChecks, payloadChecks, recordOf, noRecord}
 use Rattle.parser.specs.declared.RecordParser.{RecordParser}

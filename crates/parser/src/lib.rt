@@ -1,12 +1,15 @@
 // The incremental parser of an NVXS byte stream (the second half of nvxs/record.rs): its value,
 // whether it is sound and what it answers when asked, and the payload of a complete record.
 // `parser_push` has the push.
-use header_checks::header_ok;
-use header_checks::is_data;
-use parts::part;
-use protocol::OUTER_HEADER_LEN;
+pub mod push;
+
+use outer::OUTER_HEADER_LEN;
 use record::Record;
+use record::header::header_ok;
+use record::header::is_data;
 use wire::Refusal;
+use wire::fields;
+use wire::parts::part;
 ghost use mathlib.Core.Path.{_≡_};
 ghost use mathlib.Core.Bool.{_&&_};
 ghost use lib.Dec.{eqb, ltb};

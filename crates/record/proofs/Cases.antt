@@ -10,24 +10,24 @@ use borrow.Author.Tests.{eq-eqb, ne-eqb, eqb-true, not-true, not-false}
 use Rattle.wire.specs.Bytes.{fromLe}
 use Rattle.wire.specs.Refusals.{refusal, none, first, passes}
 use Rattle.wire.specs.Header.{magic, magicOf, versionOf, typeOf, flagsOf, instanceOf, epochOf, sequenceOf, lengthOf, headerBytes}
-use Rattle.protocol.specs.Outer.{windowOk, creditOk, valueOf, outcome, write, roomRow, putRecord}
+use Rattle.outer.specs.Outer.{windowOk, creditOk, valueOf, outcome, write, roomRow, putRecord}
 use Rattle.wire.specs.declared.Epoch.{Epoch}
 use Rattle.wire.specs.declared.Sequence.{Sequence}
 use Rattle.wire.specs.declared.Refusal.{Refusal}
-use Rattle.protocol.specs.declared.Written.{Written}
+use Rattle.outer.specs.declared.Written.{Written}
 use Rattle.wire.proofs.Rows.{Passed, picked, passed, pass-all, and-right, no-rows, row-stops, row-passes, rows-stop, rows-pass}
 use Rattle.wire.proofs.Headers.{header-length}
-use Rattle.types.specs.Types.{codeOf, typeAt, typeOk, bootstrap, lengthOk, errorAt}
-use Rattle.types.proofs.Cases.{known-code, code-low, unknown-code, length-limit}
+use Rattle.record.specs.Types.{codeOf, typeAt, typeOk, bootstrap, lengthOk, errorAt}
+use Rattle.record.proofs.TypesCases.{known-code, code-low, unknown-code, length-limit}
 use Rattle.record.specs.Record.{allZero, lengthRow, bootstrapRow, payloadRows, payloadChecks, restRows, headerRows, headerChecks, typeFrom, recordWith, recordOf}
 use Rattle.record.specs.Record.{recordRows, encodeRows, recordBytes, encodeRecord, noValue, valueIn, errorIn}
-use Rattle.types.specs.declared.RecordType.{RecordType}
-use Rattle.types.specs.declared.RecordType.the-variants.{GuestAttach, Data}
-use Rattle.types.specs.declared.TypeLookup.{TypeLookup}
-use Rattle.types.specs.declared.TypeLookup.the-variants.{Known, Unknown}
-use Rattle.types.specs.declared.ErrorCode.{ErrorCode}
-use Rattle.types.specs.declared.ErrorLookup.{ErrorLookup}
-use Rattle.types.specs.declared.ErrorLookup.the-variants as Found
+use Rattle.record.specs.declared.types.RecordType.{RecordType}
+use Rattle.record.specs.declared.types.RecordType.the-variants.{GuestAttach, Data}
+use Rattle.record.specs.declared.types.TypeLookup.{TypeLookup}
+use Rattle.record.specs.declared.types.TypeLookup.the-variants.{Known, Unknown}
+use Rattle.record.specs.declared.types.ErrorCode.{ErrorCode}
+use Rattle.record.specs.declared.types.ErrorLookup.{ErrorLookup}
+use Rattle.record.specs.declared.types.ErrorLookup.the-variants as Found
 use Rattle.record.specs.declared.Record.{Record}
 use Rattle.record.specs.declared.Value.{Value}
 

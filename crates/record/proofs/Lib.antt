@@ -1,2 +1,3 @@
 pub mod Zeros
 pub mod Cases
+pub mod TypesCases

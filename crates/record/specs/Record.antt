@@ -7,15 +7,15 @@ use lib.Dec.{eqb}
 use Rattle.wire.specs.Bytes.{fromLe}
 use Rattle.wire.specs.Refusals.{pick, refusal, first}
 use Rattle.wire.specs.Header.{magic, magicOf, versionOf, typeOf, flagsOf, instanceOf, epochOf, sequenceOf, lengthOf, headerBytes}
-use Rattle.protocol.specs.Outer.{windowOk, creditOk, valueOf, Outcome, roomRow, write}
+use Rattle.outer.specs.Outer.{windowOk, creditOk, valueOf, Outcome, roomRow, write}
 use Rattle.wire.specs.declared.Refusal.{Refusal}
-use Rattle.types.specs.Types.{typeAt, typeOk, bootstrap, lengthOk, errorAt}
-use Rattle.types.specs.declared.RecordType.{RecordType}
-use Rattle.types.specs.declared.RecordType.the-variants.{GuestAttach}
-use Rattle.types.specs.declared.TypeLookup.{TypeLookup}
-use Rattle.types.specs.declared.TypeLookup.the-variants.{Known, Unknown}
-use Rattle.types.specs.declared.ErrorLookup.{ErrorLookup}
-use Rattle.types.specs.declared.ErrorLookup.the-variants as Found
+use Rattle.record.specs.Types.{typeAt, typeOk, bootstrap, lengthOk, errorAt}
+use Rattle.record.specs.declared.types.RecordType.{RecordType}
+use Rattle.record.specs.declared.types.RecordType.the-variants.{GuestAttach}
+use Rattle.record.specs.declared.types.TypeLookup.{TypeLookup}
+use Rattle.record.specs.declared.types.TypeLookup.the-variants.{Known, Unknown}
+use Rattle.record.specs.declared.types.ErrorLookup.{ErrorLookup}
+use Rattle.record.specs.declared.types.ErrorLookup.the-variants as Found
 use Rattle.record.specs.declared.Record.{Record}
 use Rattle.record.specs.declared.Value.{Value}
 

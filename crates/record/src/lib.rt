@@ -1,13 +1,18 @@
 // Records (the first half of nvxs/record.rs): what a header says as a value, and what a record
 // answers when asked.
-use payloads::value;
-use types::ErrorCode;
-use types::ErrorLookup;
-use types::RecordType;
+pub mod checks;
+pub mod codec;
+pub mod header;
+pub mod types;
+
+use crate::types::ErrorCode;
+use crate::types::ErrorLookup;
+use crate::types::RecordType;
+use outer::payloads::value;
 use wire::Epoch;
 use wire::Sequence;
 ghost use mathlib.Core.Path.{_≡_};
-ghost use Rattle.types.specs.Types.{codeOf};
+ghost use Rattle.record.specs.Types.{codeOf};
 ghost use Rattle.record.specs.Record.{noRecord, valueIn, windowIn, creditIn, errorIn};
 
 // A record that was decoded and validated, without its payload.

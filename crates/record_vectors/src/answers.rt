@@ -1,12 +1,12 @@
 // What a call answered, at the end of a line.
+use outer::Written;
 use parser::Place;
 use parser::Pushed;
 use parser::RecordParser;
 use parser::payload;
-use protocol::Written;
 use record::Record;
 use record::Value;
-use types::ErrorLookup;
+use record::types::ErrorLookup;
 use wire::Refusal;
 
 // A refusal's number and its first two figures.

@@ -2,10 +2,10 @@
 use crate::records::Fields;
 use crate::records::in_pieces;
 use crate::records::there_and_back;
-use header_bytes::encode_header;
-use types::RecordType;
+use record::types::RecordType;
 use wire::Epoch;
 use wire::Sequence;
+use wire::header::encode_header;
 
 // The header of a RESET with another byte at one or two indexes.
 fn changed(index: usize, byte: u8, second: usize, other: u8) {

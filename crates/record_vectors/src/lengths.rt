@@ -1,7 +1,7 @@
 // For each type the payload lengths that it allows and their neighbours; others give 5.
 use crate::records::fields_of;
 use crate::records::there_and_back;
-use types::RecordType;
+use record::types::RecordType;
 ghost use Prim.Native.Nat.{_≤_};
 
 // A record of a type with so many payload bytes, all the same.

@@ -1,13 +1,14 @@
 // One record through the encoder and through a parser.
 use crate::answers;
-use codec::encode_record;
-use header_bytes::encode_header;
+use outer::Written;
+use outer::put_record;
 use parser::RecordParser;
-use protocol::Written;
-use protocol::put_record;
-use types::RecordType;
+use parser::push;
+use record::codec::encode_record;
+use record::types::RecordType;
 use wire::Epoch;
 use wire::Sequence;
+use wire::header::encode_header;
 use wire::least;
 ghost use Prim.Native.Nat.{_≤_};
 
@@ -125,7 +126,7 @@ fn push_all(bytes: &[u8], n: usize, stage: &mut [u8])
     while at < bytes.len() {
         let end = at + least(n, bytes.len() - at);
         let piece = &bytes[at..end];
-        let pushed = parser_push::push(parser, piece, stage);
+        let pushed = push::push(parser, piece, stage);
         taken = std::num::wrapping_add_u64(taken, pushed.consumed as u64);
         if is_last(pushed.complete, pushed.refusal.number, bytes.len() - end) {
             answers::pushed(pushed, taken, piece, stage);

@@ -1,8 +1,9 @@
 // Streams of several pushes, a line for each push.
 use crate::answers;
-use codec::encode_record;
 use parser::RecordParser;
-use types::RecordType;
+use parser::push;
+use record::codec::encode_record;
+use record::types::RecordType;
 use wire::Epoch;
 use wire::Sequence;
 
@@ -10,7 +11,7 @@ use wire::Sequence;
 fn push(parser: RecordParser, piece: &[u8], stage: &mut [u8]) -> RecordParser {
     print::labelled(b"push ", piece.len() as u64);
     print::text(b" bytes: ");
-    let pushed = parser_push::push(parser, piece, stage);
+    let pushed = push::push(parser, piece, stage);
     answers::pushed(pushed, pushed.consumed as u64, piece, stage);
     pushed.parser
 }

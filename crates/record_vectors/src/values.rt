@@ -1,8 +1,8 @@
 // The values of ACK, CREDIT and ERROR records; others give 8, 9 and 7.
 use crate::records::fields_of;
 use crate::records::there_and_back;
-use numbers::u32_to_le_bytes;
-use types::RecordType;
+use record::types::RecordType;
+use wire::numbers::u32_to_le_bytes;
 
 // A record of a type with a number for its payload, in pieces that end within header and payload.
 fn value(record_type: RecordType, number: u32) {

@@ -1,11 +1,11 @@
 // What a call answers: its bytes (tests/differential/FORMAT.md), made field by field.
 use crate::frame::OUTPUT;
 use crate::frame::after;
-use copying::copy_at;
-use numbers::u32_to_le_bytes;
-use numbers::u64_to_le_bytes;
 use session::Identity;
 use wire::Refusal;
+use wire::copying::copy_at;
+use wire::numbers::u32_to_le_bytes;
+use wire::numbers::u64_to_le_bytes;
 
 // Bytes of an answer's head.
 pub const HEAD: usize = 128;

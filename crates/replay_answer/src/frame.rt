@@ -1,7 +1,7 @@
 // A call's frame, and parts of slices (tests/differential/FORMAT.md).
-use copying::copy_at;
-use numbers::u32_from_le_bytes;
-use numbers::u64_from_le_bytes;
+use wire::copying::copy_at;
+use wire::numbers::u32_from_le_bytes;
+use wire::numbers::u64_from_le_bytes;
 
 // The most bytes that one answer takes.
 const ROOM: usize = 66048;

@@ -1,15 +1,19 @@
 // The calls of a guest's session, operations 10 to 16 and 50, for the replay
 // (tests/differential/FORMAT.md). Harness code: `turn` is for the replay alone and says nothing in an
 // `ensures`. It is proved safe and to end; the run holds what it does to the Rust's answers.
-use guest::GuestSession;
-use guest::GuestState;
-use guest_accept::GuestEvent;
-use guest_accept::Received;
-use guest_asks::WindowAnswer;
-use guest_calls::Closed;
-use guest_credit_entry::credit_once;
-use guest_once::receive_once;
-use guest_writes::Sent;
+use entries::guest_credit::credit_once;
+use entries::guest_once::receive_once;
+use guest::accept::GuestEvent;
+use guest::accept::Received;
+use guest::fast;
+use guest_core::GuestSession;
+use guest_core::GuestState;
+use guest_core::answers::Sent;
+use guest_core::asks;
+use guest_core::asks::WindowAnswer;
+use guest_core::control;
+use guest_core::control::Closed;
+use guest_core::send;
 use replay_answer::answer::Answer;
 use replay_answer::answer::Ask;
 use replay_answer::answer::COUNT;
@@ -90,10 +94,10 @@ fn shown(guest: GuestSession, answer: Answer) -> Ran {
 // A call that writes, by its number: 14 is credit, 15 credit by the thin entry.
 fn write(g: GuestSession, op: u8, value: u32, input: &[u8], output: &mut [u8], at: usize) -> Sent {
     match op {
-        10 => guest_calls::attach(g, output, at),
-        12 => guest_calls::acknowledge(g, value, output, at),
-        13 => guest_send::send(g, input, output, at),
-        14 => guest_send::credit(g, value, output, at),
+        10 => control::attach(g, output, at),
+        12 => control::acknowledge(g, value, output, at),
+        13 => send::send(g, input, output, at),
+        14 => send::credit(g, value, output, at),
         _ => credit_once(g, value, output, at),
     }
 }
@@ -118,7 +122,7 @@ fn take(g: GuestSession, thin: bool, input: &[u8], stage: &mut [u8]) -> Received
     if thin {
         return receive_once(g, input, stage);
     }
-    guest_receive::receive(g, input, stage)
+    fast::receive(g, input, stage)
 }
 
 fn receive(g: GuestSession, f: Frame, input: &[u8], memory: &mut [u8]) -> Ran {
@@ -138,7 +142,7 @@ fn receive(g: GuestSession, f: Frame, input: &[u8], memory: &mut [u8]) -> Ran {
 }
 
 fn disconnect(g: GuestSession) -> Ran {
-    let r: Closed = guest_calls::disconnect(g);
+    let r: Closed = control::disconnect(g);
     shown(r.session, refused(r.refusal))
 }
 
@@ -152,9 +156,9 @@ fn ask(w: WindowAnswer) -> Ask {
 
 // state and identity.
 fn who(g: GuestSession) -> Answer {
-    let asked = guest_asks::state(g);
+    let asked = asks::state(g);
     let state = asked.state;
-    let held = guest_asks::identity(g);
+    let held = asks::identity(g);
     let optional = held.identity;
     let answer = put1(refused(asked.refusal), EVENT, state_number(state));
     put_identity(answer, IDENTITY, optional.identity)
@@ -162,9 +166,9 @@ fn who(g: GuestSession) -> Answer {
 
 // state, identity, window, outstanding and needed.
 fn asks(g: GuestSession) -> Answer {
-    let outstanding = guest_asks::outstanding(g);
-    let needed = guest_asks::needed(g);
-    let mut answer = put_ask(who(g), 112, 116, ask(guest_asks::window(g)));
+    let outstanding = asks::outstanding(g);
+    let needed = asks::needed(g);
+    let mut answer = put_ask(who(g), 112, 116, ask(asks::window(g)));
     answer = put8(answer, COUNT, outstanding.outstanding as u64);
     put8(answer, NEXT, needed.count as u64)
 }

@@ -1,14 +1,16 @@
 // The calls of a host's session, operations 20 to 26 and 51, for the replay
 // (tests/differential/FORMAT.md). Harness code: `turn` is for the replay alone and says nothing in an
 // `ensures`. It is proved safe and to end; the run holds what it does to the Rust's answers.
-use copying::copy_at;
+use entries::host_once::receive_once;
 use host::HostSession;
 use host::HostState;
-use host_calls::Closed;
-use host_calls::Sent;
-use host_once::receive_once;
-use host_receive::HostEvent;
-use host_receive::Received;
+use host::accept;
+use host::accept::HostEvent;
+use host::accept::Received;
+use host::asks;
+use host::calls;
+use host::calls::Closed;
+use host::calls::Sent;
 use replay_answer::answer::Answer;
 use replay_answer::answer::EVENT;
 use replay_answer::answer::IDENTITY;
@@ -28,6 +30,7 @@ use replay_answer::state::put_session;
 use replay_answer::state::received;
 use wire::Refusal;
 use wire::Sequence;
+use wire::copying::copy_at;
 
 // Where the stage stands in the memory: its second area.
 const STAGE: usize = AREA;
@@ -102,7 +105,7 @@ fn idle(session: HostSession) -> Sent {
 // with another count of bytes than 32.
 fn write(h: HostSession, op: u8, input: &[u8], output: &mut [u8], at: usize) -> Sent {
     if op == 23 {
-        return host_calls::send(h, input, output, at);
+        return calls::send(h, input, output, at);
     }
     if op != 20 {
         return idle(h);
@@ -110,7 +113,7 @@ fn write(h: HostSession, op: u8, input: &[u8], output: &mut [u8], at: usize) -> 
     if input.len() != 32 {
         return idle(h);
     }
-    host_calls::attach(h, bytes32(input), output, at)
+    calls::attach(h, bytes32(input), output, at)
 }
 
 fn writing(h: HostSession, f: Frame, input: &[u8], memory: &mut [u8]) -> Ran {
@@ -124,7 +127,7 @@ fn take(h: HostSession, thin: bool, input: &[u8], stage: &mut [u8]) -> Received 
     if thin {
         return receive_once(h, input, stage);
     }
-    host_receive::receive(h, input, stage)
+    accept::receive(h, input, stage)
 }
 
 fn receive(h: HostSession, f: Frame, input: &[u8], memory: &mut [u8]) -> Ran {
@@ -144,15 +147,15 @@ fn receive(h: HostSession, f: Frame, input: &[u8], memory: &mut [u8]) -> Ran {
 }
 
 fn disconnect(h: HostSession) -> Ran {
-    let r: Closed = host_calls::disconnect(h);
+    let r: Closed = calls::disconnect(h);
     shown(r.session, refused(r.refusal))
 }
 
 // state and identity.
 fn who(h: HostSession) -> Answer {
-    let asked = host_asks::state(h);
+    let asked = asks::state(h);
     let state = asked.state;
-    let held = host_asks::identity(h);
+    let held = asks::identity(h);
     let optional = held.identity;
     let answer = put1(refused(asked.refusal), EVENT, state_number(state));
     put_identity(answer, IDENTITY, optional.identity)
@@ -160,7 +163,7 @@ fn who(h: HostSession) -> Answer {
 
 // state, identity and needed.
 fn asks(h: HostSession) -> Answer {
-    let needed = host_asks::needed(h);
+    let needed = asks::needed(h);
     put8(who(h), NEXT, needed.count as u64)
 }
 

@@ -1,12 +1,11 @@
 // The calls of the plain layer, and the record encoder beside its own: operations 40 to 46.
 use crate::record_calls;
-use copying::copy_at;
-use numbers::u32_from_le_bytes;
-use payloads::DecodedPayload;
-use payloads::EncodedPayload;
-use protocol::DecodedHeader;
-use protocol::Written;
-use protocol::encode_outer;
+use outer::DecodedHeader;
+use outer::Written;
+use outer::encode_outer;
+use outer::payloads;
+use outer::payloads::DecodedPayload;
+use outer::payloads::EncodedPayload;
 use replay_answer::answer::Answer;
 use replay_answer::answer::Ask;
 use replay_answer::answer::COUNT;
@@ -29,6 +28,8 @@ use replay_answer::frame::sixteen;
 use session::Identity;
 use wire::Epoch;
 use wire::Sequence;
+use wire::copying::copy_at;
+use wire::numbers::u32_from_le_bytes;
 
 // The fields that stand before an encoder's payload: type, instance, epoch, sequence.
 pub struct Fields {
@@ -104,7 +105,7 @@ fn decode(input: &[u8]) -> Answer {
     if input.len() != 44 {
         return blank();
     }
-    header(protocol::decode_outer_header(bytes44(input)))
+    header(outer::decode_outer_header(bytes44(input)))
 }
 
 // The answer of an encoder of four bytes.

@@ -3,6 +3,7 @@ use crate::record_calls::error_value;
 use parser::Pushed;
 use parser::RecordParser;
 use parser::payload;
+use parser::push;
 use record::Record;
 use record::Value;
 use replay_answer::answer::Answer;
@@ -89,7 +90,7 @@ fn completed<'a>(r: Pushed, input: &'a [u8], stage: &'a [u8]) -> Answer {
 }
 
 fn push(p: RecordParser, f: Frame, input: &[u8], memory: &mut [u8]) -> Ran {
-    let r = parser_push::push(p, input, stage(memory, STAGE, f.a));
+    let r = push::push(p, input, stage(memory, STAGE, f.a));
     if r.complete {
         return shown(r.parser, completed(r, input, cut(memory, STAGE, AREA)));
     }

@@ -1,7 +1,11 @@
 // The calls of the record encoder, and what types and error codes answer: operations 40, 47, 48.
 use crate::outer_calls::Fields;
-use codec::encode_record;
-use protocol::Written;
+use outer::Written;
+use record::codec::encode_record;
+use record::types::ErrorCode;
+use record::types::ErrorLookup;
+use record::types::RecordType;
+use record::types::TypeLookup;
 use replay_answer::answer::Answer;
 use replay_answer::answer::Ask;
 use replay_answer::answer::COUNT;
@@ -14,10 +18,6 @@ use replay_answer::answer::put1;
 use replay_answer::answer::put8;
 use replay_answer::frame::Frame;
 use replay_answer::frame::low;
-use types::ErrorCode;
-use types::ErrorLookup;
-use types::RecordType;
-use types::TypeLookup;
 use wire::Refusal;
 
 // encode_record with the fields of an encoder's input. An unknown type writes nothing.

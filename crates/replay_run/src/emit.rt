@@ -1,5 +1,4 @@
 // Appends answers to the output of a block.
-use copying::copy_at;
 use parser::Place;
 use parser::payload;
 use replay_answer::answer::Answer;
@@ -8,6 +7,7 @@ use replay_answer::answer::Part;
 use replay_answer::answer::finished;
 use replay_answer::frame::AREA;
 use replay_answer::frame::cut;
+use wire::copying::copy_at;
 
 // The part of the input or of the memory that the payload is.
 fn part_of<'a>(p: Part, input: &'a [u8], memory: &'a [u8]) -> &'a [u8] {

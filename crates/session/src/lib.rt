@@ -1,13 +1,16 @@
 // What the two ends of a session share (nvxs/mod.rs): identities, the sequence after another, and
 // the rules of the shared checks.
-use checks::all_zero;
+pub mod checks;
+pub mod next;
+
 use record::Record;
-use types::RecordType;
+use record::checks::all_zero;
+use record::types::RecordType;
 use wire::Epoch;
 use wire::Refusal;
 use wire::Sequence;
 ghost use mathlib.Core.Path.{_≡_};
-ghost use Rattle.types.specs.Types.{codeOf};
+ghost use Rattle.record.specs.Types.{codeOf};
 ghost use Rattle.session.specs.Checks.{identityOf, same, noIdentity, identityOk, holds, shown, recordIdentity, nextSequence};
 
 // Identity of one epoch of a session.

@@ -7,7 +7,7 @@ use lib.ListN.{length, length-append, drop-of-length-le}
 use lib.Dec.{lit<}
 use Rattle.wire.specs.Bytes.{fromLe, toLe, bytesAt, overlay, copied, Octets, end, octet}
 use Rattle.wire.specs.Header.{magic, magicOf, versionOf, typeOf, flagsOf, instanceOf, epochOf, sequenceOf, lengthOf, headerBytes}
-use Rattle.wire.proofs.Numbers.{at-whole, at-octets, length-at, length-to, to-from}
+use Rattle.wire.proofs.NumberLaws.{at-whole, at-octets, length-at, length-to, to-from}
 use Rattle.wire.proofs.Overlays.{length-overlay, overlay-next, copied-fits}
 
 -- one more part copied behind the parts that stand there

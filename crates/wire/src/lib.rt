@@ -1,5 +1,11 @@
 // What every layer uses: refusals, epochs and sequences, the smaller of two lengths, and the rules of
 // bytes and headers.
+pub mod copying;
+pub mod fields;
+pub mod header;
+pub mod numbers;
+pub mod parts;
+
 ghost use mathlib.Core.Path.{_≡_};
 ghost use Prim.Native.Nat.{min};
 ghost use Rattle.wire.specs.Refusals.{refusal, none};

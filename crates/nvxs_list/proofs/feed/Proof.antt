@@ -63,24 +63,4 @@ returns-2 : tie.Need-returns-2 Inv-loop μ-loop
 returns-2 c = feeds-all (c .before .loop .inv) (c .loop-test .left)
 
 pub feed-spec : {M : Type 1} → statement M
-feed-spec =
-    tie.close
-    (tie.spec
-    Inv-loop
-    μ-loop
-    loop-holds
-    sub-list
-    part-list-start
-    part-list-end
-    list-requires
-    add-taken
-    flush-requires
-    goes-on-requires
-    same-length
-    same-length-2
-    returns
-    loop-less
-    loop-again
-    same-length-3
-    same-length-4
-    returns-2)
+feed-spec = tie.close (tie.spec Inv-loop μ-loop loop-holds sub-list part-list-start part-list-end list-requires add-taken flush-requires goes-on-requires same-length same-length-2 returns loop-less loop-again same-length-3 same-length-4 returns-2)

@@ -12,8 +12,5 @@ returns c = λ e. let z : _≡_ {A = ℕ} 0 1 = cc in absurd (omega arith)
 returns-2 : tie.Need-returns-2
 returns-2 c = λ e. let z : _≡_ {A = ℕ} 0 1 = cc in absurd (omega arith)
 
-returns-3 : tie.Need-returns-3
-returns-3 c = search needs
-
 pub goes-on-spec : {M : Type 1} → statement M
-goes-on-spec = tie.close (tie.spec returns returns-2 returns-3)
+goes-on-spec = tie.close (tie.spec returns returns-2 (λ c. search needs))

@@ -49,20 +49,4 @@ returns-2 : tie.Need-returns-2 Inv-loop μ-loop
 returns-2 c = search needs
 
 pub read-all-spec : {M : Type 1} → statement M
-read-all-spec =
-    tie.close
-    (tie.spec
-    Inv-loop
-    μ-loop
-    new-requires
-    loop-holds
-    sub-turns
-    slice-aggregate-read-once
-    slice-aggregate-read-once-2
-    read-once-requires
-    same-length
-    returns
-    loop-less
-    loop-again
-    same-length-2
-    returns-2)
+read-all-spec = tie.close (tie.spec Inv-loop μ-loop new-requires loop-holds sub-turns slice-aggregate-read-once slice-aggregate-read-once-2 read-once-requires same-length returns loop-less loop-again same-length-2 returns-2)

@@ -3,14 +3,5 @@ use Rattle.parser.proofs.Cases.{latching}
 use Rattle.parser.proofs.error_ok.Statement.{statement}
 use Rattle.parser.proofs.error_ok.Tie as tie
 
-returns : tie.Need-returns
-returns c = search latching
-
-returns-2 : tie.Need-returns-2
-returns-2 c = search latching
-
-returns-3 : tie.Need-returns-3
-returns-3 c = search latching
-
 pub error-ok-spec : {M : Type 1} → statement M
-error-ok-spec = tie.close (tie.spec returns returns-2 returns-3)
+error-ok-spec = tie.close (tie.spec (λ c. search latching) (λ c. search latching) (λ c. search latching))

@@ -34,15 +34,4 @@ returns : tie.Need-returns Inv-loop μ-loop
 returns c = search needs
 
 pub hex-spec : {M : Type 1} → statement M
-hex-spec =
-    tie.close
-    (tie.spec
-    Inv-loop
-    μ-loop
-    loop-holds
-    shared-slice-read-hex-byte
-    hex-byte-requires
-    add-i
-    loop-less
-    loop-again
-    returns)
+hex-spec = tie.close (tie.spec Inv-loop μ-loop loop-holds shared-slice-read-hex-byte hex-byte-requires add-i loop-less loop-again returns)

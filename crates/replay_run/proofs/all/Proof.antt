@@ -53,21 +53,4 @@ returns-2 : tie.Need-returns-2 Inv-loop μ-loop
 returns-2 c = search needs
 
 pub all-spec : {M : Type 1} → statement M
-all-spec =
-    tie.close
-    (tie.spec
-    Inv-loop
-    μ-loop
-    loop-holds
-    sub-turns
-    slice-aggregate-read-full
-    read-full-requires
-    returns
-    slice-aggregate-block
-    slice-aggregate-block-2
-    block-requires
-    slice-aggregate-flush
-    flush-requires
-    loop-less
-    loop-again
-    returns-2)
+all-spec = tie.close (tie.spec Inv-loop μ-loop loop-holds sub-turns slice-aggregate-read-full read-full-requires returns slice-aggregate-block slice-aggregate-block-2 block-requires slice-aggregate-flush flush-requires loop-less loop-again returns-2)

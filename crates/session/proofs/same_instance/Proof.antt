@@ -49,15 +49,4 @@ returns c =
     c .before .loop .inv .1 ∙ ap₂ same (take-all i a (omega arith)) (take-all i b (omega arith))
 
 pub same-instance-spec : {M : Type 1} → statement M
-same-instance-spec =
-    tie.close
-    (tie.spec
-    Inv-loop
-    μ-loop
-    loop-holds
-    array-read-if1
-    array-read-if1-2
-    add-i
-    loop-less
-    loop-again
-    returns)
+same-instance-spec = tie.close (tie.spec Inv-loop μ-loop loop-holds array-read-if1 array-read-if1-2 add-i loop-less loop-again returns)

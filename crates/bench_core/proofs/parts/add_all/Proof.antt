@@ -36,16 +36,4 @@ returns : tie.Need-returns Inv-loop μ-loop
 returns c = search needs
 
 pub add-all-spec : {M : Type 1} → statement M
-add-all-spec =
-    tie.close
-    (tie.spec
-    Inv-loop
-    μ-loop
-    loop-holds
-    shared-slice-read-wide
-    wide-requires
-    add-requires
-    add-i
-    loop-less
-    loop-again
-    returns)
+add-all-spec = tie.close (tie.spec Inv-loop μ-loop loop-holds shared-slice-read-wide wide-requires add-requires add-i loop-less loop-again returns)

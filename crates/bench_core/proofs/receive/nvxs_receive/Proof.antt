@@ -43,18 +43,4 @@ returns-2 : tie.Need-returns-2 Inv-loop μ-loop
 returns-2 c = search needs
 
 pub nvxs-receive-spec : {M : Type 1} → statement M
-nvxs-receive-spec =
-    tie.close
-    (tie.spec
-    Inv-loop
-    μ-loop
-    active-guest-requires
-    no-sums-requires
-    loop-holds
-    turn-requires
-    same-length
-    returns
-    loop-less
-    loop-again
-    same-length-2
-    returns-2)
+nvxs-receive-spec = tie.close (tie.spec Inv-loop μ-loop active-guest-requires no-sums-requires loop-holds turn-requires same-length returns loop-less loop-again same-length-2 returns-2)

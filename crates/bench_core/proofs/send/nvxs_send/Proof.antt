@@ -40,17 +40,4 @@ returns-2 : tie.Need-returns-2 Inv-loop μ-loop
 returns-2 c = search needs
 
 pub nvxs-send-spec : {M : Type 1} → statement M
-nvxs-send-spec =
-    tie.close
-    (tie.spec
-    Inv-loop
-    μ-loop
-    active-guest-requires
-    loop-holds
-    turn-requires
-    same-length
-    returns
-    loop-less
-    loop-again
-    same-length-2
-    returns-2)
+nvxs-send-spec = tie.close (tie.spec Inv-loop μ-loop active-guest-requires loop-holds turn-requires same-length returns loop-less loop-again same-length-2 returns-2)

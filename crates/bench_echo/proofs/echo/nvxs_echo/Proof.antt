@@ -46,19 +46,4 @@ returns : tie.Need-returns Inv-loop μ-loop
 returns c = search needs
 
 pub nvxs-echo-spec : {M : Type 1} → statement M
-nvxs-echo-spec =
-    tie.close
-    (tie.spec
-    Inv-loop
-    μ-loop
-    ready-requires
-    loop-holds
-    add-i
-    cast-turn
-    turn-requires
-    loop-less
-    loop-again
-    same-length
-    same-length-2
-    same-length-3
-    returns)
+nvxs-echo-spec = tie.close (tie.spec Inv-loop μ-loop ready-requires loop-holds add-i cast-turn turn-requires loop-less loop-again same-length same-length-2 same-length-3 returns)

@@ -7,47 +7,8 @@ use borrow.Author.Needs.{needs}
 use Rattle.listing.proofs.Listing.end.Statement.{statement}
 use Rattle.listing.proofs.Listing.end.Tie as tie
 
-is-sound-requires : tie.Need-is-sound-requires
-is-sound-requires c κs = search needs
-
-new-requires : tie.Need-new-requires
-new-requires c κs = search needs
-
-returns : tie.Need-returns
-returns c = search ends
-
-new-requires-2 : tie.Need-new-requires-2
-new-requires-2 c κs = search needs
-
-returns-2 : tie.Need-returns-2
-returns-2 c = search ends
-
-buffered-requires : tie.Need-buffered-requires
-buffered-requires c κs = search needs
-
-put-ending-requires : tie.Need-put-ending-requires
-put-ending-requires c κs = search needs
-
-none-requires : tie.Need-none-requires
-none-requires c κs = search needs
-
-same-length : tie.Need-same-length
-same-length c = search needs
-
 returns-3 : tie.Need-returns-3
 returns-3 c = let s = c .before .before .before .before .before .before .before .before .before .before .args .self in let t = c .before .before .before .before .before .before .before .before .is-sound .ensures in end-put _ s (c .before .before .before .before .before .before .before .before .is-sound .result) t (c .before .before .before .before .before .before .before .if1 .left) _ _ _ _ (c .before .before .before .before .before .before .if2 .left) (c .none .ensures) (count-is s _ (c .before .before .before .before .before .buffered .ensures) (sym t ∙ not-false _ (c .before .before .before .before .before .before .before .if1 .left))) (c .before .before .before .put-ending .ensures)
 
 pub end-spec : {M : Type 1} → statement M
-end-spec =
-    tie.close
-    (tie.spec
-    is-sound-requires
-    new-requires
-    returns
-    new-requires-2
-    returns-2
-    buffered-requires
-    put-ending-requires
-    none-requires
-    same-length
-    returns-3)
+end-spec = tie.close (tie.spec _ _ (λ c. search ends) _ (λ c. search ends) _ _ _ (λ c. search needs) returns-3)

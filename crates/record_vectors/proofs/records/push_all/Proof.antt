@@ -70,27 +70,4 @@ returns-2 : tie.Need-returns-2 Inv-loop μ-loop
 returns-2 c = search needs
 
 pub push-all-spec : {M : Type 1} → statement M
-push-all-spec =
-    tie.close
-    (tie.spec
-    Inv-loop
-    μ-loop
-    new-requires
-    loop-holds
-    sub-least
-    least-requires
-    add-end
-    sub-piece
-    part-piece-start
-    part-piece-end
-    push-requires
-    wrapping-add-u64-requires
-    sub-is-last
-    is-last-requires
-    pushed-requires
-    same-length
-    returns
-    loop-less
-    loop-again
-    same-length-2
-    returns-2)
+push-all-spec = tie.close (tie.spec Inv-loop μ-loop new-requires loop-holds sub-least least-requires add-end sub-piece part-piece-start part-piece-end push-requires wrapping-add-u64-requires sub-is-last is-last-requires pushed-requires same-length returns loop-less loop-again same-length-2 returns-2)

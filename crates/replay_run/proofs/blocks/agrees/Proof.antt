@@ -12,28 +12,8 @@ zeros-length = length-replicate {A = ℕ} 262144 0
 slice-aggregate-run : tie.Need-slice-aggregate-run
 slice-aggregate-run c = sym zeros-length
 
-run-requires : tie.Need-run-requires
-run-requires c κs = search needs
-
 slice-aggregate-cut : tie.Need-slice-aggregate-cut
 slice-aggregate-cut c = sym (c .before .before .run .kept .1 .1 .0 ∙ zeros-length)
 
-cut-requires : tie.Need-cut-requires
-cut-requires c κs = search needs
-
-same-requires : tie.Need-same-requires
-same-requires c κs = search needs
-
-returns : tie.Need-returns
-returns c = search needs
-
 pub agrees-spec : {M : Type 1} → statement M
-agrees-spec =
-    tie.close
-    (tie.spec
-    slice-aggregate-run
-    run-requires
-    slice-aggregate-cut
-    cut-requires
-    same-requires
-    returns)
+agrees-spec = tie.close (tie.spec slice-aggregate-run _ slice-aggregate-cut _ _ (λ c. search needs))

@@ -59,22 +59,4 @@ returns-2 : tie.Need-returns-2 Inv-loop μ-loop
 returns-2 c = search needs
 
 pub run-spec : {M : Type 1} → statement M
-run-spec =
-    tie.close
-    (tie.spec
-    Inv-loop
-    μ-loop
-    new-requires
-    new-requires-2
-    new-requires-3
-    loop-holds
-    frame-at-requires
-    same-length
-    returns
-    cut-requires
-    slice-aggregate-turn
-    turn-requires
-    loop-less
-    loop-again
-    same-length-2
-    returns-2)
+run-spec = tie.close (tie.spec Inv-loop μ-loop new-requires new-requires-2 new-requires-3 loop-holds frame-at-requires same-length returns cut-requires slice-aggregate-turn turn-requires loop-less loop-again same-length-2 returns-2)

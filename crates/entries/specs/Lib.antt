@@ -1,0 +1,3 @@
+pub mod GuestEntryAnswers
+pub mod GuestCreditAnswers
+pub mod HostEntryAnswers

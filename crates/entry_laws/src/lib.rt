@@ -1,1 +1,0 @@
-// No code: a law of the program logic for the entries.

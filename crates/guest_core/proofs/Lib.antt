@@ -1,0 +1,5 @@
+pub mod Soundness
+pub mod Asking
+pub mod Writing
+pub mod Calling
+pub mod Sending

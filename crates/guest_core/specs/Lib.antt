@@ -1,0 +1,5 @@
+pub mod State
+pub mod Asks
+pub mod Writes
+pub mod Calls
+pub mod Send

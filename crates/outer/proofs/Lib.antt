@@ -1,0 +1,4 @@
+pub mod Writes
+pub mod Cases
+pub mod RoundTrips
+pub mod PayloadsCases

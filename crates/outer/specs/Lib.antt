@@ -1,0 +1,2 @@
+pub mod Outer
+pub mod Payloads
