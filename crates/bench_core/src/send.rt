@@ -3,8 +3,7 @@ use crate::parts::after;
 use crate::parts::cut;
 use crate::parts::piece_end;
 use crate::start::active_guest;
-use guest_core::GuestSession;
-use guest_core::send;
+use guest::GuestSession;
 ghost use mathlib.Core.Path.{_≡_};
 ghost use lib.ListN.{length};
 
@@ -20,7 +19,7 @@ fn turn(run: Run, data: &[u8], size: usize, output: &mut [u8]) -> Run {
     let at = run.at;
     let end = piece_end(at, at, size, data.len());
     let before = run.guest;
-    let sent = send::send(before, cut(data, at, end), output, run.next);
+    let sent = guest::send(before, cut(data, at, end), output, run.next);
     let guest = sent.session;
     Run {
         guest,

@@ -1,6 +1,6 @@
 // A guest at the point where DATA flows.
-use guest_core::GuestSession;
-use guest_core::GuestState;
+use guest::GuestSession;
+use guest::GuestState;
 use parser::RecordParser;
 use session::Identity;
 use session::OptionalIdentity;

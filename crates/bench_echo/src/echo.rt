@@ -6,11 +6,8 @@ use bench_core::parts::add_payload;
 use bench_core::parts::cut;
 use bench_core::parts::no_sums;
 use bench_core::start::active_guest;
-use guest::fast;
-use guest_core::GuestSession;
-use guest_core::send;
+use guest::GuestSession;
 use host::HostSession;
-use host::calls;
 use parser::RecordParser;
 use parser::push;
 use record::Record;
@@ -52,9 +49,9 @@ fn low(x: usize) -> u32 {
 
 // The guest sends bytes back and credits them.
 fn answer(g: GuestSession, bytes: &[u8], reply: &mut [u8]) -> GuestTurn {
-    let sent = send::send(g, bytes, reply, 0);
+    let sent = guest::send(g, bytes, reply, 0);
     let sending = sent.session;
-    let credited = send::credit(sending, low(bytes.len()), reply, sent.next);
+    let credited = guest::credit(sending, low(bytes.len()), reply, sent.next);
     let guest = credited.session;
     GuestTurn {
         guest,
@@ -64,10 +61,10 @@ fn answer(g: GuestSession, bytes: &[u8], reply: &mut [u8]) -> GuestTurn {
 
 // The guest receives a message and answers it.
 fn guest_turn(g: GuestSession, wire: &[u8], stage: &mut [u8], reply: &mut [u8]) -> GuestTurn {
-    let received = fast::receive(g, wire, stage);
+    let received = guest::receive(g, wire, stage);
     let active = received.session;
     let place = received.place;
-    let bytes = guest::accept::payload(wire, stage, place, received.length);
+    let bytes = guest::payload(wire, stage, place, received.length);
     answer(active, bytes, reply)
 }
 
@@ -107,10 +104,10 @@ fn relay_turn(
 
 // The host receives the echo.
 fn host_turn(h: HostSession, wire: &[u8], stage: &mut [u8], sums: Sums, whole: bool) -> HostTurn {
-    let received = host::accept::receive(h, wire, stage);
+    let received = host::receive(h, wire, stage);
     let place = received.place;
     let host = received.session;
-    let echo = host::accept::payload(wire, stage, place, received.length);
+    let echo = host::payload(wire, stage, place, received.length);
     HostTurn {
         host,
         sums: add_payload(sums, echo, whole),
@@ -129,7 +126,7 @@ fn turn(
     reply: &mut [u8],
 ) -> Link {
     let h = link.host;
-    let sent = calls::send(h, message, wire, 0);
+    let sent = host::send(h, message, wire, 0);
     let g = link.guest;
     let answered = guest_turn(g, cut(wire, 0, sent.next), stage, reply);
     let p = link.parser;

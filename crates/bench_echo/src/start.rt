@@ -2,8 +2,6 @@
 use bench_core::start::EPOCH;
 use bench_core::start::INSTANCE;
 use host::HostSession;
-use host::accept;
-use host::calls;
 use record::codec::encode_record;
 use record::types::RecordType;
 use wire::Epoch;
@@ -29,11 +27,11 @@ fn opening(record_type: RecordType) -> [u8; 44] {
 // the sequence that the guest expects.
 pub(crate) fn attached_host(stage: &mut [u8]) -> HostSession {
     let mut output = [0u8; 76];
-    let attached = calls::attach(HostSession::new(), [7u8; 32], &mut output, 0);
+    let attached = host::attach(HostSession::new(), [7u8; 32], &mut output, 0);
     let attaching = attached.session;
     let ready = opening(RecordType::Ready);
-    let received = accept::receive(attaching, &ready, stage);
+    let received = host::receive(attaching, &ready, stage);
     let host = received.session;
-    let sent = calls::send(host, b"0", &mut output, 0);
+    let sent = host::send(host, b"0", &mut output, 0);
     sent.session
 }

@@ -1,3 +1,2 @@
-pub mod GuestEntryAnswers
-pub mod GuestCreditAnswers
-pub mod HostEntryAnswers
+pub mod GuestAnswers
+pub mod HostAnswers

@@ -1,15 +1,16 @@
 // The entry that changes the caller's host session (01, "thin entries for receive and credit change
-// the caller's session"). It passes a copy of the session to the operation by value and stores the
-// session of its answer back.
+// the caller's session"), `receive_in`. It passes a copy of the session to the operation by value and
+// stores the session of its answer back. `receive_once` is the entry on a session by value.
+use host::HostEvent;
 use host::HostSession;
-use host::accept::HostEvent;
-use host::accept::receive;
+use host::Received;
+use host::receive;
 use parser::Place;
 use session::Identity;
 use wire::Refusal;
 ghost use mathlib.Core.Path.{_≡_};
-ghost use Rattle.host.specs.Receive.{receiveOf};
-ghost use Rattle.entries.specs.HostEntryAnswers.{receiveAnswer};
+ghost use Rattle.host.specs.Receive.{outcome, receiveOf};
+ghost use Rattle.entries.specs.HostAnswers.{receiveAnswer};
 
 // What a receive answers beside the session. The bytes of data are had by the host's `payload`.
 pub struct ReceiveAnswer {
@@ -37,5 +38,22 @@ pub fn receive_in(session: &mut HostSession, piece: &[u8], stage: &mut [u8]) -> 
         identity: done.identity,
         place: done.place,
         length: done.length,
+    }
+}
+
+// `receive_in` on a session that is passed and answered by value.
+pub fn receive_once(session: HostSession, piece: &[u8], stage: &mut [u8]) -> Received
+    ensures { λ r. ⌜ outcome r (now (stage .exit)) ≡ receiveOf session (now (piece .entry)) (now (stage .entry)) ⌝ }
+{
+    let mut s = session;
+    let answer = receive_in(&mut s, piece, stage);
+    Received {
+        refusal: answer.refusal,
+        consumed: answer.consumed,
+        event: answer.event,
+        identity: answer.identity,
+        place: answer.place,
+        length: answer.length,
+        session: s,
     }
 }

@@ -1,6 +1,3 @@
-// No code: a law of the program logic for the entries.
-pub mod guest_credit;
+// The thin entries for callers that keep their session in place: they change it behind a `&mut`.
 pub mod guest_entry;
-pub mod guest_once;
 pub mod host_entry;
-pub mod host_once;

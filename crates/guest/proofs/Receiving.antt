@@ -55,19 +55,13 @@ module _ (g : GuestSession) (u : Pushed) (x : Refusal) (ex : x ≡ first (resetR
       (passed (resetRows (g .identity) (u .«record»)) (refl, (refl, (refl, tt))) (ap passes (sym ex) ∙ eq-eqb (x .number) 0 n) .1 .1 .0)
 
   pub reset-done : (y : Refusal) (i : Identity) (s : GuestSession) → x .number ≡ 0 → y ≡ none → i ≡ identityOf (u .«record»)
-      → s ≡ record { state = State.Resetting; parser = u .parser; identity = record { present = true; identity = i }; «receive_sequence» = record { 0 = u .«record» .sequence .0 + 1 }; «send_sequence» = record { 0 = 0 }; window = 0; outstanding = 0 }
+      → s ≡ resetSession (u .parser) i (u .«record» .sequence .0)
       → record { refusal = y; consumed = u .consumed; event = Event.Reset; identity = i; place = Piece 0; length = 0; session = s } ≡ acceptReset g (told u) .answer
   unfolding acceptReset
   reset-done y i s n ey ei es =
       simp (acceptReset, ← ex, eq-eqb (x .number) 0 n)
       (λ j. answered (ey j) (u .consumed) Event.Reset (ei j) (Piece 0) 0
-      ((es ∙ (λ k. record { state = State.Resetting; parser = u .parser; identity = record { present = true; identity = ei k }; «receive_sequence» = record { 0 = u .«record» .sequence .0 + 1 }; «send_sequence» = record { 0 = 0 }; window = 0; outstanding = 0 })) j))
-
--- nothing of the old epoch is outstanding
-pub reset-owes : (p : RecordParser) (i : Identity) (s n : ℕ) → n ≡ 0
-    → record { state = State.Resetting; parser = p; identity = record { present = true; identity = i }; «receive_sequence» = record { 0 = s + 1 }; «send_sequence» = record { 0 = 0 }; window = 0; outstanding = n } ≡ resetSession p i s
-reset-owes p i s n e =
-    ap (λ (k : ℕ). record { state = State.Resetting; parser = p; identity = record { present = true; identity = i }; «receive_sequence» = record { 0 = s + 1 }; «send_sequence» = record { 0 = 0 }; window = 0; outstanding = k }) e
+      ((es ∙ (λ k. resetSession (u .parser) (ei k) (u .«record» .sequence .0))) j))
 
 pub ruleset accepting-reset = (reset-fails, reset-done)
 

@@ -1,6 +1,5 @@
-// What a guest's session makes of a push (01, "receive"), by value: `receive_any` is any receive. The
-// quick way of `guest_receive` falls back on it. `payload` has the bytes of DATA that a receive handed
-// out; it is the parser's.
+// What a guest's session makes of a push (01, "receive"), by value: `receive_any` is any receive, on
+// which the fast path falls back.
 use crate::checks::check_data;
 use crate::checks::check_reset;
 use guest_core::GuestSession;
@@ -9,7 +8,6 @@ use outer::OUTER_MAX_PAYLOAD;
 use parser::Place;
 use parser::Pushed;
 use parser::RecordParser;
-pub use parser::payload;
 use parser::push::push;
 use session::Identity;
 use session::OptionalIdentity;
@@ -71,11 +69,29 @@ fn refuse(session: GuestSession, refusal: Refusal) -> Received
     }
 }
 
+// The session in Failed, with the parser as the push left it.
+fn failed(session: GuestSession, parser: RecordParser) -> GuestSession
+    ensures { λ r. ⌜ r ≡ withState session State.Failed parser ⌝ }
+{
+    let identity = session.identity;
+    let receive_sequence = session.receive_sequence;
+    let send_sequence = session.send_sequence;
+    GuestSession {
+        parser,
+        identity,
+        receive_sequence,
+        send_sequence,
+        window: session.window,
+        outstanding: session.outstanding,
+        state: GuestState::Failed,
+    }
+}
+
 // A receive that leaves Failed.
 fn fail(session: GuestSession, parser: RecordParser, refusal: Refusal) -> Received
     ensures { λ r. ⌜ r ≡ refused refusal (withState session State.Failed parser) ⌝ }
 {
-    refuse(session.with_state(GuestState::Failed, parser), refusal)
+    refuse(failed(session, parser), refusal)
 }
 
 // A RESET: the session starts a new epoch.
@@ -94,18 +110,13 @@ fn accept_reset(session: GuestSession, pushed: Pushed) -> Received
         identity,
         place: Place::Piece(0),
         length: 0,
-        session: reset_session(pushed.parser, identity, pushed.record.sequence, 0),
+        session: reset_session(pushed.parser, identity, pushed.record.sequence),
     }
 }
 
-// The session after a RESET, with what is outstanding then.
-fn reset_session(
-    parser: RecordParser,
-    identity: Identity,
-    sequence: Sequence,
-    outstanding: u32,
-) -> GuestSession
-    requires { ⌜ (sequence .0 < lastSequence) × (outstanding ≡ 0) ⌝ }
+// The session after a RESET.
+fn reset_session(parser: RecordParser, identity: Identity, sequence: Sequence) -> GuestSession
+    requires { ⌜ sequence .0 < lastSequence ⌝ }
     ensures { λ r. ⌜ r ≡ resetSession parser identity (sequence .0) ⌝ }
 {
     GuestSession {
@@ -117,7 +128,7 @@ fn reset_session(
         receive_sequence: Sequence(sequence.0 + 1),
         send_sequence: Sequence(0),
         window: 0,
-        outstanding,
+        outstanding: 0,
         state: GuestState::Resetting,
     }
 }
@@ -207,7 +218,7 @@ fn with_parser(mut session: GuestSession, parser: RecordParser) -> GuestSession
 }
 
 // Any receive: what stops it, then the push and what it says.
-pub fn receive_any(session: GuestSession, piece: &[u8], stage: &mut [u8]) -> Received
+pub(crate) fn receive_any(session: GuestSession, piece: &[u8], stage: &mut [u8]) -> Received
     ensures { λ r. ⌜ receiving.outcome r (now (stage .exit)) ≡ receiveOf session (now (piece .entry)) (now (stage .entry)) ⌝ }
 {
     if !session.is_sound() {

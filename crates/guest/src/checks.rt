@@ -35,7 +35,7 @@ fn is_stale(current: OptionalIdentity, actual: Identity) -> bool
 }
 
 // What stops a RESET: 11, 14, 16.
-pub fn check_reset(current: OptionalIdentity, record: Record) -> Refusal
+pub(crate) fn check_reset(current: OptionalIdentity, record: Record) -> Refusal
     ensures { λ r. ⌜ r ≡ first (resetRows current «record») ⌝ }
 {
     let carried = record_identity(record);
@@ -75,7 +75,7 @@ fn check_room(due: Sequence, window: u32, outstanding: u32, length: usize) -> Re
 }
 
 // What stops DATA: 15, 12, 13, 16, 17.
-pub fn check_data(session: GuestSession, record: Record) -> Refusal
+pub(crate) fn check_data(session: GuestSession, record: Record) -> Refusal
     ensures { λ r. ⌜ r ≡ first (dataRows session «record») ⌝ }
 {
     let sequence = check_sequence(record.sequence, session.receive_sequence);

@@ -1,5 +1,5 @@
-// What a guest's session takes in (01, "receive"), by value: it takes the session and answers with
-// the session after it. DATA that flows has a quick way here; `guest_accept` has the rest.
+// A guest's `receive` (01, "receive"), by value, with a fast path for DATA that flows; `receive_any`
+// of `accept` has the rest.
 use crate::accept::GuestEvent;
 use crate::accept::Received;
 use crate::accept::receive_any;

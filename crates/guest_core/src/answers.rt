@@ -14,7 +14,7 @@ pub struct Sent {
 }
 
 // Nothing is sent.
-pub fn not_sent(session: GuestSession, refusal: Refusal) -> Sent
+pub(crate) fn not_sent(session: GuestSession, refusal: Refusal) -> Sent
     ensures { λ r. ⌜ r ≡ notSent refusal session ⌝ }
 {
     Sent {
@@ -26,7 +26,7 @@ pub fn not_sent(session: GuestSession, refusal: Refusal) -> Sent
 }
 
 // A record is sent.
-pub fn record_sent(count: usize, next: usize, session: GuestSession) -> Sent
+pub(crate) fn record_sent(count: usize, next: usize, session: GuestSession) -> Sent
     ensures { λ r. ⌜ r ≡ sentRecord count next session ⌝ }
 {
     Sent {

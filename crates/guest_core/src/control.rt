@@ -110,11 +110,11 @@ pub fn acknowledge(session: GuestSession, window: u32, output: &mut [u8], at: us
     if refusal.number != 0 {
         return not_sent(session, refusal);
     }
-    let written = write_ack(session.identity.identity, window, output, at);
-    if written.refusal.number != 0 {
-        return not_sent(session, written.refusal);
+    let ack = write_ack(session.identity.identity, window, output, at);
+    if ack.refusal.number != 0 {
+        return not_sent(session, ack.refusal);
     }
-    record_sent(0, written.next, acknowledged(session, window))
+    record_sent(0, ack.next, acknowledged(session, window))
 }
 
 // Ends the session at the end of the stream.

@@ -1,6 +1,6 @@
-// The guest's session by value (nvxs/guest.rs), and whether it is sound. `guest_asks` has what it
-// answers when asked, and `guest_receive`, `guest_calls` and `guest_send` the operations that
-// change it.
+// The guest's session by value (nvxs/guest.rs): what it is and whether it is sound, what it answers
+// when asked (`asks`), and the calls that write (`control`, `send`). The crate `guest`, which a
+// guest's program opens, passes all of this on and adds `receive`.
 pub mod answers;
 pub mod asks;
 pub mod control;
@@ -40,7 +40,7 @@ pub struct GuestSession {
 }
 
 impl GuestState {
-    // A number for each state.
+    // The state's number, from 0 in 01's order.
     pub fn number(self) -> u8
         ensures { λ r. ⌜ r ≡ code self ⌝ }
     {
@@ -136,7 +136,7 @@ impl GuestSession {
     }
 
     // The session in another state with another parser.
-    pub fn with_state(self, state: GuestState, parser: RecordParser) -> GuestSession
+    pub(crate) fn with_state(self, state: GuestState, parser: RecordParser) -> GuestSession
         ensures { λ r. ⌜ r ≡ withState self state parser ⌝ }
     {
         let identity = self.identity;

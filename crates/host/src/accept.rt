@@ -1,5 +1,4 @@
 // The host's receive (01, "receive"): it takes the session and answers with the session after it.
-// `payload` has the bytes of DATA that a receive handed out; it is the parser's.
 use crate::HostSession;
 use crate::HostState;
 use crate::checks::check_record;
@@ -8,7 +7,6 @@ use outer::OUTER_MAX_PAYLOAD;
 use parser::Place;
 use parser::Pushed;
 use parser::RecordParser;
-pub use parser::payload;
 use parser::push::push;
 use record::types::RecordType;
 use session::Identity;

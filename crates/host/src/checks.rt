@@ -128,7 +128,7 @@ fn check_type(code: u8, current: Identity, record: Record) -> Refusal
 }
 
 // What stops a whole record.
-pub fn check_record(session: HostSession, record: Record) -> Refusal
+pub(crate) fn check_record(session: HostSession, record: Record) -> Refusal
     ensures { λ r. ⌜ r ≡ first (recordRows session «record») ⌝ }
 {
     let state = session.state;

@@ -1,12 +1,26 @@
-// The host's session by value (nvxs/host.rs), and whether it is sound. `host_asks` has what it
-// answers when asked, `host_checks` what stops a record, `host_receive` its receive, and
-// `host_calls` its other calls.
-pub mod accept;
-pub mod asks;
-pub mod calls;
-pub mod checks;
+// The host's session by value (nvxs/host.rs): what it is and whether it is sound, what it answers
+// when asked (`asks`), the calls that write, and disconnect (`calls`), what stops a record (`checks`)
+// and `receive` (`accept`), with `payload` for the bytes of DATA that a receive handed out.
+mod accept;
+mod asks;
+mod calls;
+mod checks;
 
+pub use crate::accept::HostEvent;
+pub use crate::accept::Received;
+pub use crate::accept::receive;
+pub use crate::asks::IdentityAnswer;
+pub use crate::asks::StateAnswer;
+pub use crate::asks::identity;
+pub use crate::asks::needed;
+pub use crate::asks::state;
+pub use crate::calls::Closed;
+pub use crate::calls::Sent;
+pub use crate::calls::attach;
+pub use crate::calls::disconnect;
+pub use crate::calls::send;
 use parser::RecordParser;
+pub use parser::payload;
 use session::OptionalIdentity;
 use session::no_identity;
 use wire::Sequence;
@@ -37,7 +51,7 @@ pub struct HostSession {
 }
 
 impl HostState {
-    // A number for each state.
+    // The state's number, from 0 in 01's order.
     pub fn number(self) -> u8
         ensures { λ r. ⌜ r ≡ code self ⌝ }
     {
@@ -92,7 +106,7 @@ impl HostSession {
     }
 
     // The session in another state with another parser, all else unchanged.
-    pub fn with_state(self, state: HostState, parser: RecordParser) -> HostSession
+    pub(crate) fn with_state(self, state: HostState, parser: RecordParser) -> HostSession
         ensures { λ r. ⌜ r ≡ withState self state parser ⌝ }
     {
         let identity = self.identity;

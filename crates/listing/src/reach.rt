@@ -81,7 +81,7 @@ fn within_limit(offset: u64, held: u64, refused: u64) -> bool
 
 // Whether some capture leaves these counts: whole records of `offset` bytes that leave `open`, then
 // `held` bytes of a record under way, or a record refused by `number` (0: none).
-pub fn reached(offset: u64, open: u64, held: u64, number: u64) -> bool
+pub(crate) fn reached(offset: u64, open: u64, held: u64, number: u64) -> bool
     ensures { λ r. ⌜ r ≡ reached offset «open» held number ⌝ }
 {
     if !within_limit(offset, held, refused_bytes(number)) {

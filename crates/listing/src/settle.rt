@@ -10,7 +10,7 @@ ghost use Rattle.listing.specs.Settled.{settled, numberOnly, isSettled};
 
 // What a listing keeps of a parser: between records no byte of a header, and of a refusal its
 // number alone.
-pub fn settle(parser: RecordParser) -> RecordParser
+pub(crate) fn settle(parser: RecordParser) -> RecordParser
     ensures { λ r. ⌜ r ≡ settled parser ⌝ }
 {
     if parser.header_len != 0 {
@@ -61,7 +61,7 @@ fn zero_from(header: [u8; 44], from: usize) -> bool
 }
 
 // Whether no more of a parser is kept than a listing keeps.
-pub fn is_settled(parser: RecordParser) -> bool
+pub(crate) fn is_settled(parser: RecordParser) -> bool
     ensures { λ r. ⌜ r ≡ isSettled parser ⌝ }
 {
     if !is_number(parser.error) {

@@ -34,7 +34,7 @@ pub fn all_zero(bytes: [u8; 16]) -> bool
 }
 
 // Checks that a type allows a payload of so many bytes.
-pub fn check_length(record_type: RecordType, length: usize) -> Refusal
+pub(crate) fn check_length(record_type: RecordType, length: usize) -> Refusal
     ensures { λ r. ⌜ r ≡ first (lengthRow (codeOf «record_type») length ∷ []) ⌝ }
 {
     if record_type.allows_length(length) {
@@ -44,7 +44,7 @@ pub fn check_length(record_type: RecordType, length: usize) -> Refusal
 }
 
 // Checks that a bootstrap record carries a zero instance, epoch and sequence.
-pub fn check_bootstrap(
+pub(crate) fn check_bootstrap(
     record_type: RecordType,
     instance_id: [u8; 16],
     epoch: Epoch,

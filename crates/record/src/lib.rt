@@ -66,41 +66,6 @@ fn value_in(wanted: u8, code: u8, payload: &[u8]) -> Value
 }
 
 impl Record {
-    // The record's type.
-    pub fn record_type(self) -> RecordType
-        ensures { λ r. ⌜ r ≡ self .«record_type» ⌝ }
-    {
-        self.record_type
-    }
-
-    // The session's instance, zero in a bootstrap record.
-    pub fn instance_id(self) -> [u8; 16]
-        ensures { λ r. ⌜ r ≡ self .«instance_id» ⌝ }
-    {
-        self.instance_id
-    }
-
-    // The session's epoch, zero in a bootstrap record.
-    pub fn epoch(self) -> Epoch
-        ensures { λ r. ⌜ r ≡ self .epoch ⌝ }
-    {
-        self.epoch
-    }
-
-    // The record's number in its direction, zero in a bootstrap record.
-    pub fn sequence(self) -> Sequence
-        ensures { λ r. ⌜ r ≡ self .sequence ⌝ }
-    {
-        self.sequence
-    }
-
-    // The payload's length.
-    pub fn length(self) -> usize
-        ensures { λ r. ⌜ r ≡ self .length ⌝ }
-    {
-        self.length
-    }
-
     // The window of an ACK record, none for another type.
     pub fn window(self, payload: &[u8]) -> Value
         ensures { λ r. ⌜ r ≡ windowIn (codeOf (self .«record_type»)) (now (payload .entry)) ⌝ }

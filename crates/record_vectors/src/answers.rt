@@ -50,10 +50,11 @@ pub fn pushed<'a>(pushed: Pushed, taken: u64, piece: &'a [u8], stage: &'a [u8]) 
 
 // A record's fields, and what its payload holds.
 fn complete<'a>(record: Record, place: Place, piece: &'a [u8], stage: &'a [u8]) {
-    print::labelled(b"type ", record.record_type().code() as u64);
-    let instance_id = record.instance_id();
-    let length = record.length();
-    print::fields(&instance_id, record.epoch().0, record.sequence().0, length);
+    let record_type = record.record_type;
+    print::labelled(b"type ", record_type.code() as u64);
+    let instance_id = record.instance_id;
+    let length = record.length;
+    print::fields(&instance_id, record.epoch.0, record.sequence.0, length);
     values(record, payload(piece, stage, place, length));
 }
 

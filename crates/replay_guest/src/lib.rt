@@ -1,19 +1,14 @@
 // The calls of a guest's session, operations 10 to 16 and 50, for the replay
 // (tests/differential/FORMAT.md). Harness code: `turn` is for the replay alone and says nothing in an
 // `ensures`. It is proved safe and to end; the run holds what it does to the Rust's answers.
-use entries::guest_credit::credit_once;
-use entries::guest_once::receive_once;
-use guest::accept::GuestEvent;
-use guest::accept::Received;
-use guest::fast;
-use guest_core::GuestSession;
-use guest_core::GuestState;
-use guest_core::answers::Sent;
-use guest_core::asks;
-use guest_core::asks::WindowAnswer;
-use guest_core::control;
-use guest_core::control::Closed;
-use guest_core::send;
+use entries::guest_entry::credit_once;
+use entries::guest_entry::receive_once;
+use guest::Closed;
+use guest::GuestEvent;
+use guest::GuestSession;
+use guest::Received;
+use guest::Sent;
+use guest::WindowAnswer;
 use replay_answer::answer::Answer;
 use replay_answer::answer::Ask;
 use replay_answer::answer::COUNT;
@@ -45,18 +40,6 @@ pub struct Ran {
     pub answer: Answer,
 }
 
-// A state's number, in 01's order.
-fn state_number(state: GuestState) -> u8 {
-    match state {
-        GuestState::Detached => 0,
-        GuestState::Attaching => 1,
-        GuestState::Resetting => 2,
-        GuestState::Active => 3,
-        GuestState::Closed => 4,
-        GuestState::Failed => 5,
-    }
-}
-
 // An event's number: 2 hands out bytes.
 fn event_number(event: GuestEvent) -> u8 {
     match event {
@@ -76,7 +59,7 @@ fn put_guest(answer: Answer, g: GuestSession) -> Answer {
     let state = g.state;
     let due = g.receive_sequence;
     let send = g.send_sequence;
-    let mut x = put_session(answer, state_number(state), g.parser, g.identity);
+    let mut x = put_session(answer, state.number(), g.parser, g.identity);
     x = put8(x, 288, due.0);
     x = put8(x, 296, send.0);
     x = put8(x, 304, wide(g.window));
@@ -94,10 +77,10 @@ fn shown(guest: GuestSession, answer: Answer) -> Ran {
 // A call that writes, by its number: 14 is credit, 15 credit by the thin entry.
 fn write(g: GuestSession, op: u8, value: u32, input: &[u8], output: &mut [u8], at: usize) -> Sent {
     match op {
-        10 => control::attach(g, output, at),
-        12 => control::acknowledge(g, value, output, at),
-        13 => send::send(g, input, output, at),
-        14 => send::credit(g, value, output, at),
+        10 => guest::attach(g, output, at),
+        12 => guest::acknowledge(g, value, output, at),
+        13 => guest::send(g, input, output, at),
+        14 => guest::credit(g, value, output, at),
         _ => credit_once(g, value, output, at),
     }
 }
@@ -122,7 +105,7 @@ fn take(g: GuestSession, thin: bool, input: &[u8], stage: &mut [u8]) -> Received
     if thin {
         return receive_once(g, input, stage);
     }
-    fast::receive(g, input, stage)
+    guest::receive(g, input, stage)
 }
 
 fn receive(g: GuestSession, f: Frame, input: &[u8], memory: &mut [u8]) -> Ran {
@@ -142,7 +125,7 @@ fn receive(g: GuestSession, f: Frame, input: &[u8], memory: &mut [u8]) -> Ran {
 }
 
 fn disconnect(g: GuestSession) -> Ran {
-    let r: Closed = control::disconnect(g);
+    let r: Closed = guest::disconnect(g);
     shown(r.session, refused(r.refusal))
 }
 
@@ -156,19 +139,19 @@ fn ask(w: WindowAnswer) -> Ask {
 
 // state and identity.
 fn who(g: GuestSession) -> Answer {
-    let asked = asks::state(g);
+    let asked = guest::state(g);
     let state = asked.state;
-    let held = asks::identity(g);
+    let held = guest::identity(g);
     let optional = held.identity;
-    let answer = put1(refused(asked.refusal), EVENT, state_number(state));
+    let answer = put1(refused(asked.refusal), EVENT, state.number());
     put_identity(answer, IDENTITY, optional.identity)
 }
 
 // state, identity, window, outstanding and needed.
 fn asks(g: GuestSession) -> Answer {
-    let outstanding = asks::outstanding(g);
-    let needed = asks::needed(g);
-    let mut answer = put_ask(who(g), 112, 116, ask(asks::window(g)));
+    let outstanding = guest::outstanding(g);
+    let needed = guest::needed(g);
+    let mut answer = put_ask(who(g), 112, 116, ask(guest::window(g)));
     answer = put8(answer, COUNT, outstanding.outstanding as u64);
     put8(answer, NEXT, needed.count as u64)
 }

@@ -1,16 +1,12 @@
 // The calls of a host's session, operations 20 to 26 and 51, for the replay
 // (tests/differential/FORMAT.md). Harness code: `turn` is for the replay alone and says nothing in an
 // `ensures`. It is proved safe and to end; the run holds what it does to the Rust's answers.
-use entries::host_once::receive_once;
+use entries::host_entry::receive_once;
+use host::Closed;
+use host::HostEvent;
 use host::HostSession;
-use host::HostState;
-use host::accept;
-use host::accept::HostEvent;
-use host::accept::Received;
-use host::asks;
-use host::calls;
-use host::calls::Closed;
-use host::calls::Sent;
+use host::Received;
+use host::Sent;
 use replay_answer::answer::Answer;
 use replay_answer::answer::EVENT;
 use replay_answer::answer::IDENTITY;
@@ -41,19 +37,6 @@ pub struct Ran {
     pub answer: Answer,
 }
 
-// A state's number, in 01's order.
-fn state_number(state: HostState) -> u8 {
-    match state {
-        HostState::Detached => 0,
-        HostState::Attaching => 1,
-        HostState::Attached => 2,
-        HostState::Rejected => 3,
-        HostState::Reset => 4,
-        HostState::Closed => 5,
-        HostState::Failed => 6,
-    }
-}
-
 // An event's number: 6 hands out bytes.
 fn event_number(event: HostEvent) -> u8 {
     match event {
@@ -71,7 +54,7 @@ fn put_host(answer: Answer, h: HostSession) -> Answer {
     let state = h.state;
     let due = h.receive_sequence;
     let send = h.send_sequence;
-    let mut x = put_session(answer, state_number(state), h.parser, h.identity);
+    let mut x = put_session(answer, state.number(), h.parser, h.identity);
     x = put8(x, 288, due.0);
     put8(x, 296, send.0)
 }
@@ -105,7 +88,7 @@ fn idle(session: HostSession) -> Sent {
 // with another count of bytes than 32.
 fn write(h: HostSession, op: u8, input: &[u8], output: &mut [u8], at: usize) -> Sent {
     if op == 23 {
-        return calls::send(h, input, output, at);
+        return host::send(h, input, output, at);
     }
     if op != 20 {
         return idle(h);
@@ -113,7 +96,7 @@ fn write(h: HostSession, op: u8, input: &[u8], output: &mut [u8], at: usize) -> 
     if input.len() != 32 {
         return idle(h);
     }
-    calls::attach(h, bytes32(input), output, at)
+    host::attach(h, bytes32(input), output, at)
 }
 
 fn writing(h: HostSession, f: Frame, input: &[u8], memory: &mut [u8]) -> Ran {
@@ -127,7 +110,7 @@ fn take(h: HostSession, thin: bool, input: &[u8], stage: &mut [u8]) -> Received 
     if thin {
         return receive_once(h, input, stage);
     }
-    accept::receive(h, input, stage)
+    host::receive(h, input, stage)
 }
 
 fn receive(h: HostSession, f: Frame, input: &[u8], memory: &mut [u8]) -> Ran {
@@ -147,23 +130,23 @@ fn receive(h: HostSession, f: Frame, input: &[u8], memory: &mut [u8]) -> Ran {
 }
 
 fn disconnect(h: HostSession) -> Ran {
-    let r: Closed = calls::disconnect(h);
+    let r: Closed = host::disconnect(h);
     shown(r.session, refused(r.refusal))
 }
 
 // state and identity.
 fn who(h: HostSession) -> Answer {
-    let asked = asks::state(h);
+    let asked = host::state(h);
     let state = asked.state;
-    let held = asks::identity(h);
+    let held = host::identity(h);
     let optional = held.identity;
-    let answer = put1(refused(asked.refusal), EVENT, state_number(state));
+    let answer = put1(refused(asked.refusal), EVENT, state.number());
     put_identity(answer, IDENTITY, optional.identity)
 }
 
 // state, identity and needed.
 fn asks(h: HostSession) -> Answer {
-    let needed = asks::needed(h);
+    let needed = host::needed(h);
     put8(who(h), NEXT, needed.count as u64)
 }
 

@@ -2,7 +2,7 @@
 // in crate replay_layers; a session's is a crate, replay_guest or replay_host. A session's or a
 // parser's has a `turn`, which runs the calls that are its own; any other has an arm of `plain`.
 use crate::emit::emit;
-use guest_core::GuestSession;
+use guest::GuestSession;
 use host::HostSession;
 use parser::RecordParser;
 use replay_answer::frame::Frame;

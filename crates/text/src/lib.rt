@@ -24,7 +24,7 @@ fn put(output: &mut [u8], at: usize, n: u64, end: u8) -> usize
 
 // Puts a number and the byte that ends it, and answers the place after them. Where fewer than
 // NUMBER_ROOM bytes are left nothing is put, and the answer is the place itself.
-pub fn put_number(output: &mut [u8], at: usize, n: u64, end: u8) -> usize
+pub(crate) fn put_number(output: &mut [u8], at: usize, n: u64, end: u8) -> usize
     ensures { λ r. ⌜ placed r (now (output .exit)) ≡ putNumber (now (output .entry)) at n end ⌝ }
 {
     if output.len() < NUMBER_ROOM {

@@ -21,7 +21,7 @@ fn wide64(x: u32) -> u64
     x as u64
 }
 
-pub fn u16_from_le_bytes(bytes: [u8; 2]) -> u16
+pub(crate) fn u16_from_le_bytes(bytes: [u8; 2]) -> u16
     ensures { λ r. ⌜ r ≡ fromLe bytes ⌝ }
 {
     wide16(bytes[0]) + 256 * wide16(bytes[1])
@@ -43,7 +43,7 @@ pub fn u64_from_le_bytes(bytes: [u8; 8]) -> u64
     wide64(low) + 4294967296 * wide64(high)
 }
 
-pub fn u16_to_le_bytes(value: u16) -> [u8; 2]
+pub(crate) fn u16_to_le_bytes(value: u16) -> [u8; 2]
     ensures { λ r. ⌜ r ≡ toLe 2 value ⌝ }
 {
     let v1 = value / 256;

@@ -42,7 +42,7 @@ use denote.Triple.Walked.{Stays, stay-ref, stay-none-slice, gave-slice, walkOf, 
 use denote.Exit.{yes}
 use denote.Signature.{plain}
 use Rattle.guest.specs.Receive.{Outcome, outcome, receiveOf}
-use Rattle.entries.specs.GuestEntryAnswers.{receiveAnswer}
+use Rattle.entries.specs.GuestAnswers.{receiveAnswer}
 use Rattle.guest_core.specs.declared.GuestSession.{GuestSession}
 use Rattle.guest.specs.declared.accept.Received.{Received}
 use Rattle.entries.specs.declared.guest_entry.ReceiveAnswer.{ReceiveAnswer}
@@ -53,10 +53,10 @@ use Rattle.guest.proofs.accept.Received as D
 use Rattle.guest.proofs.accept.Received.Laws as D′
 use Rattle.entries.proofs.guest_entry.ReceiveAnswer as R
 use Rattle.entries.proofs.guest_entry.ReceiveAnswer.Laws as R′
-use Rattle.guest.proofs.fast.receive as callee
-use Rattle.guest.proofs.fast.receive.Symbol as callee-def
-use Rattle.guest.proofs.fast.receive.Symbol.{name as #callee}
-use Rattle.guest.proofs.fast.receive.Met as callee-thm
+use Rattle.guest.proofs.receive as callee
+use Rattle.guest.proofs.receive.Symbol as callee-def
+use Rattle.guest.proofs.receive.Symbol.{name as #callee}
+use Rattle.guest.proofs.receive.Met as callee-thm
 use Rattle.entries.proofs.guest_entry.receive_in.Key.{name as #self}
 use Rattle.entries.proofs.guest_entry.receive_in as self
 use Rattle.entries.proofs.guest_entry.receive_in.Statement as stated
@@ -206,4 +206,4 @@ receive-in-spec 𝓤 H 𝓜 𝓖 𝓡 =
     entered 𝓤 H (tripleOf 𝓤 H (𝓖 .A) self.signature (self.spec 𝓤 H (𝓖 .A) (𝓜 .mem) (𝓡 .run)))
     (tables 𝓤 H 𝓜 𝓡 code.env .C) (tables 𝓤 H 𝓜 𝓡 code.env .Λ) #self code.function (code.unfolded 𝓤 H 𝓜 𝓡)
     (self-meets 𝓤 H (𝓖 .A) (givenOf 𝓤 H 𝓜 𝓖) (𝓜 .mem) (𝓡 .run) (tablesOf 𝓤 H 𝓜 (tables 𝓤 H 𝓜 𝓡 code.env))
-    (cited 𝓤 H (Callee 𝓤 H (𝓖 .A) (𝓜 .mem) (𝓡 .run)) 𝓜 𝓡 code.env #callee callee-def.routine code.calls-guest·fast·receive (callee-thm.met 𝓤 H 𝓜 𝓖 𝓡)))
+    (cited 𝓤 H (Callee 𝓤 H (𝓖 .A) (𝓜 .mem) (𝓡 .run)) 𝓜 𝓡 code.env #callee callee-def.routine code.calls-guest·receive (callee-thm.met 𝓤 H 𝓜 𝓖 𝓡)))

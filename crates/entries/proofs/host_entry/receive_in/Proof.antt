@@ -42,7 +42,7 @@ use denote.Triple.Walked.{Stays, stay-ref, stay-none-slice, gave-slice, walkOf, 
 use denote.Exit.{yes}
 use denote.Signature.{plain}
 use Rattle.host.specs.Receive.{Outcome, outcome, receiveOf}
-use Rattle.entries.specs.HostEntryAnswers.{receiveAnswer}
+use Rattle.entries.specs.HostAnswers.{receiveAnswer}
 use Rattle.host.specs.declared.HostSession.{HostSession}
 use Rattle.host.specs.declared.accept.Received.{Received}
 use Rattle.entries.specs.declared.host_entry.ReceiveAnswer.{ReceiveAnswer}
@@ -53,10 +53,10 @@ use Rattle.host.proofs.accept.Received as D
 use Rattle.host.proofs.accept.Received.Laws as D′
 use Rattle.entries.proofs.host_entry.ReceiveAnswer as R
 use Rattle.entries.proofs.host_entry.ReceiveAnswer.Laws as R′
-use Rattle.host.proofs.accept.receive as callee
-use Rattle.host.proofs.accept.receive.Symbol as callee-def
-use Rattle.host.proofs.accept.receive.Symbol.{name as #callee}
-use Rattle.host.proofs.accept.receive.Met as callee-thm
+use Rattle.host.proofs.receive as callee
+use Rattle.host.proofs.receive.Symbol as callee-def
+use Rattle.host.proofs.receive.Symbol.{name as #callee}
+use Rattle.host.proofs.receive.Met as callee-thm
 use Rattle.entries.proofs.host_entry.receive_in.Key.{name as #self}
 use Rattle.entries.proofs.host_entry.receive_in as self
 use Rattle.entries.proofs.host_entry.receive_in.Statement as stated
@@ -206,4 +206,4 @@ receive-in-spec 𝓤 H 𝓜 𝓖 𝓡 =
     entered 𝓤 H (tripleOf 𝓤 H (𝓖 .A) self.signature (self.spec 𝓤 H (𝓖 .A) (𝓜 .mem) (𝓡 .run)))
     (tables 𝓤 H 𝓜 𝓡 code.env .C) (tables 𝓤 H 𝓜 𝓡 code.env .Λ) #self code.function (code.unfolded 𝓤 H 𝓜 𝓡)
     (self-meets 𝓤 H (𝓖 .A) (givenOf 𝓤 H 𝓜 𝓖) (𝓜 .mem) (𝓡 .run) (tablesOf 𝓤 H 𝓜 (tables 𝓤 H 𝓜 𝓡 code.env))
-    (cited 𝓤 H (Callee 𝓤 H (𝓖 .A) (𝓜 .mem) (𝓡 .run)) 𝓜 𝓡 code.env #callee callee-def.routine code.calls-host·accept·receive (callee-thm.met 𝓤 H 𝓜 𝓖 𝓡)))
+    (cited 𝓤 H (Callee 𝓤 H (𝓖 .A) (𝓜 .mem) (𝓡 .run)) 𝓜 𝓡 code.env #callee callee-def.routine code.calls-host·receive (callee-thm.met 𝓤 H 𝓜 𝓖 𝓡)))
