@@ -16,8 +16,7 @@ pub fn no_sums() -> Sums {
 }
 
 // Adds a number.
-// Internal: serves the benchmark.
-pub fn add(sums: Sums, value: u64) -> Sums {
+pub(crate) fn add(sums: Sums, value: u64) -> Sums {
     let plain = std::num::wrapping_add_u64(sums.plain, value);
     Sums {
         plain,
@@ -54,15 +53,13 @@ pub fn add_payload(sums: Sums, bytes: &[u8], whole: bool) -> Sums {
 }
 
 // A place so many bytes further on.
-// Internal: serves the benchmark.
-pub fn after(at: usize, count: usize) -> usize {
+pub(crate) fn after(at: usize, count: usize) -> usize {
     std::num::wrapping_add_usize(at, count)
 }
 
 // The end of the piece at a place: the end as it was until that is reached, then one piece on, or
 // the end of the stream.
-// Internal: serves the benchmark.
-pub fn piece_end(at: usize, end: usize, piece: usize, length: usize) -> usize {
+pub(crate) fn piece_end(at: usize, end: usize, piece: usize, length: usize) -> usize {
     if at < end {
         return end;
     }

@@ -1,9 +1,10 @@
-// The link listing (01): its state by value, whether it is sound, the line of names and the last
-// line, and its rules.
+// The link listing (01): its state by value, whether it is sound (`reach`, `settle`), the line of
+// names and the last line, and the lines of a piece (`list`).
 pub mod list;
-pub mod reach;
-pub mod settle;
+mod reach;
+mod settle;
 
+pub use crate::reach::LIMIT;
 use crate::reach::reached;
 use crate::settle::is_settled;
 use outer::Written;

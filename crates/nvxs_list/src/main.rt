@@ -1,8 +1,8 @@
 // Lists the records of a capture: standard input to standard output (01, "The link listing").
+use listing::LIMIT;
 use listing::Listing;
 use listing::list::list;
 use listing::names;
-use listing::reach::LIMIT;
 ghost use mathlib.Core.Path.{_≡_};
 ghost use mathlib.Core.Bool.{true};
 ghost use Prim.Native.Nat.{_≤_, _<_};

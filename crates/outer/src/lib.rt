@@ -1,5 +1,5 @@
 // Outer records (magic `NVXS`), the plain layer: the port of outer.rs. A record is a 44-byte
-// header and a payload.
+// header and a payload; `payloads` has the ack and credit pairs.
 pub mod payloads;
 
 use wire::Epoch;

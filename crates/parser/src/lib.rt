@@ -1,6 +1,6 @@
 // The incremental parser of an NVXS byte stream (the second half of nvxs/record.rs): its value,
 // whether it is sound and what it answers when asked, and the payload of a complete record.
-// `parser_push` has the push.
+// `push` has the push.
 pub mod push;
 
 use outer::OUTER_HEADER_LEN;

@@ -1,5 +1,6 @@
 // Records (the first half of nvxs/record.rs): what a header says as a value, and what a record
-// answers when asked.
+// answers when asked. `types` has the record types and error codes, `checks` and `header` the checks
+// of a record's fields and of its header, `codec` the header read and the encoder.
 pub mod checks;
 pub mod codec;
 pub mod header;

@@ -128,8 +128,7 @@ fn decoded(d: DecodedPayload) -> Answer {
 }
 
 // Runs one of these calls.
-// Internal: harness code, held to the Rust's answers by the run.
-pub fn call(f: Frame, input: &[u8], memory: &mut [u8]) -> Answer {
+pub(crate) fn call(f: Frame, input: &[u8], memory: &mut [u8]) -> Answer {
     let op = f.op;
     match op {
         40 | 41 => encode(f, input, memory),

@@ -47,8 +47,7 @@ fn flag(b: bool) -> u64 {
 }
 
 // What a type's code stands for, whether it is a bootstrap type and allows the length (47).
-// Internal: harness code, held to the Rust's answers by the run.
-pub fn type_asks(f: Frame) -> Answer {
+pub(crate) fn type_asks(f: Frame) -> Answer {
     let TypeLookup::Known(record_type) = RecordType::from_code((f.a % 256) as u8) else {
         return blank();
     };
@@ -70,8 +69,7 @@ pub(crate) fn error_value(found: ErrorLookup) -> Ask {
 }
 
 // What an error code stands for (48).
-// Internal: harness code, held to the Rust's answers by the run.
-pub fn error_asks(f: Frame) -> Answer {
+pub(crate) fn error_asks(f: Frame) -> Answer {
     put_ask(
         blank(),
         114,

@@ -1,5 +1,5 @@
-// What the two ends of a session share (nvxs/mod.rs): identities, the sequence after another, and
-// the rules of the shared checks.
+// What the two ends of a session share (nvxs/mod.rs): identities and the sequence after another, the
+// checks of a record's sequence and identity (`checks`), and the encoders of the next record (`next`).
 pub mod checks;
 pub mod next;
 

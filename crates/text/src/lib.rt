@@ -1,4 +1,4 @@
-// A number in decimal, put into a lent buffer at a place.
+// A number in decimal, and the lines of the listing (`lines`), put into a lent buffer at a place.
 pub mod lines;
 
 use wire::copying::copy_at;

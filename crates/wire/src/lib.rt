@@ -1,5 +1,6 @@
-// What every layer uses: refusals, epochs and sequences, the smaller of two lengths, and the rules of
-// bytes and headers.
+// What every layer uses: refusals, epochs and sequences, numbers of fixed width (`numbers`), a
+// header's 44 bytes read (`fields`) and written (`header`), and bytes copied and cut (`copying`,
+// `parts`).
 pub mod copying;
 pub mod fields;
 pub mod header;
