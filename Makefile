@@ -1,15 +1,23 @@
 # make test: every check of the repository; its last line is that of rt ci.
 # make run:  prove and build the link listing, and list a sample; CAPTURE=file lists any file.
 # make bench: time the port against the Rust reference (docs/SPEED.md).
+# make rooms: draw docs/rooms.svg anew from crates.txt.
 .DEFAULT_GOAL := test
-.PHONY: test run rt-present differential-where-present
+.PHONY: test run rooms rt-present differential-where-present
 MAKEFLAGS += --no-print-directory
 
 test: rt-present
 	@tests/kit
 	@rt fmt --check
 	@echo 'fmt: every file is in the layout'
+	@docs/draw-rooms | cmp - docs/rooms.svg
+	@echo 'rooms: the drawing is that of crates.txt'
+	@tests/documents
+	@tests/operations
 	@tests/ci
+
+rooms:
+	@docs/draw-rooms > docs/rooms.svg
 
 CAPTURE ?= samples/reattachment.nvxs
 
