@@ -10,7 +10,7 @@ test: rt-present
 	@tests/kit
 	@rt fmt --check
 	@echo 'fmt: every file is in the layout'
-	@docs/draw-rooms | cmp - docs/rooms.svg
+	@docs/draw-rooms | cmp - docs/rooms.svg || { echo 'rooms: docs/rooms.svg is not that of crates.txt: run make rooms' >&2; exit 1; }
 	@echo 'rooms: the drawing is that of crates.txt'
 	@tests/documents
 	@tests/operations

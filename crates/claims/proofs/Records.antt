@@ -1,6 +1,6 @@
 -- A header that passes its checks with a payload that passes its own is a record that the encoder's rows pass, and the header and
 -- payload are its encoding; and the encoding of a record that the rows pass scans as that record. Both directions go row by row,
--- over the laws of headers of `protocol`. Assumes nothing.
+-- over the laws of headers of `wire`. Assumes nothing.
 use Prim.Native.Nat.{ℕ, _+_, _^_, _≤_, _<_}
 use mathlib.Core.Path.{_≡_, refl, sym, ap, ap₂, _∙_}
 use mathlib.Core.Bool.{Bool, true, false, _&&_}

@@ -1,4 +1,4 @@
--- Why the quick way of a receive answers what its rule asks. A step is a push whose answer is known from few tests: it waits, or it completes DATA that passes the rows.
+-- Why the fast path of a receive answers what its rule asks. A step is a push whose answer is known from few tests: it waits, or it completes DATA that passes the rows.
 -- It leans on the cases of the push (`Rattle.parser.proofs.Cases`) and on those of a receive (`Rattle.guest.proofs.Receiving`). Assumes nothing.
 use Prim.Native.Nat.{ℕ, _+_, _-_, _^_, _≤_, _<_, min}
 use mathlib.Core.Path.{_≡_, refl, sym, ap, subst, _∙_}

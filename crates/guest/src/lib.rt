@@ -1,6 +1,6 @@
-// What a guest's program opens (nvxs/guest.rs): the session, what it answers when asked and the calls
-// that write, all passed on from `guest_core`; and what it takes in, `receive`, with `payload` for
-// the bytes of DATA that a receive handed out.
+// What a guest's program opens (nvxs/guest.rs): the session, what it answers when asked and its calls,
+// all passed on from `guest_core`; `receive`, with `payload` for the bytes of DATA that a receive
+// handed out; and the types of their answers.
 mod accept;
 mod checks;
 mod fast;
@@ -26,4 +26,11 @@ pub use guest_core::control::attach;
 pub use guest_core::control::disconnect;
 pub use guest_core::send::credit;
 pub use guest_core::send::send;
+pub use parser::Count;
+pub use parser::Place;
 pub use parser::payload;
+pub use session::Identity;
+pub use session::OptionalIdentity;
+pub use wire::Epoch;
+pub use wire::Refusal;
+pub use wire::Sequence;

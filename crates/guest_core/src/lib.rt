@@ -1,5 +1,5 @@
 // The guest's session by value (nvxs/guest.rs): what it is and whether it is sound, what it answers
-// when asked (`asks`), and the calls that write (`control`, `send`). The crate `guest`, which a
+// when asked (`asks`), and its calls but `receive` (`control`, `send`). The crate `guest`, which a
 // guest's program opens, passes all of this on and adds `receive`.
 pub mod answers;
 pub mod asks;

@@ -1,4 +1,4 @@
--- `listing::list::list` meets its contract. Each return is a case of its rule: `listings`, `list-lines` of the proofs of `listing`. The part of the piece that is read ends at the limit. Assumes nothing.
+-- `listing::list::list` meets its contract. Each return is a case of its rule: `listings`, `list-lines` of proofs/Lines. The part of the piece that is read ends at the limit. Assumes nothing.
 use mathlib.Core.Path.{ap, _∙_}
 use native.Mathlib.Omega.{arith}
 use lib.ListN.{length-take}

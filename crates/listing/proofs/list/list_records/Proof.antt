@@ -1,4 +1,4 @@
--- `listing::list::list_records` meets its contract. The loop's invariant, `Going` of the proofs of `listing`: what is left to do is what was to be done at first, and nothing was refused. The measure is the bytes that are left, of which each turn takes one or more. Assumes nothing.
+-- `listing::list::list_records` meets its contract. The loop's invariant, `Going` of proofs/Lines: what is left to do is what was to be done at first, and nothing was refused. The measure is the bytes that are left, of which each turn takes one or more. Assumes nothing.
 use Prim.Native.Nat.{_-_}
 use mathlib.Core.Path.{_≡_}
 use native.Mathlib.Omega.{arith}

@@ -1,4 +1,4 @@
--- `listing::list::open_after` meets its contract. Each return is a case of its rule, `opening` of the proofs of `listing`. Assumes nothing.
+-- `listing::list::open_after` meets its contract. Each return is a case of its rule, `opening` of proofs/Cases. Assumes nothing.
 use Rattle.listing.proofs.Cases.{opening}
 use borrow.Author.Needs.{needs}
 use Rattle.listing.proofs.list.open_after.Statement.{statement}

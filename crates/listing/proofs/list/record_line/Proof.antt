@@ -1,4 +1,4 @@
--- `listing::list::record_line` meets its contract. What is put is the record's line, and the answer is the state after it: `record-line` of the proofs of `listing`. Assumes nothing.
+-- `listing::list::record_line` meets its contract. What is put is the record's line, and the answer is the state after it: `record-line` of proofs/Cases. Assumes nothing.
 use Rattle.listing.proofs.Cases.{record-line}
 use borrow.Author.Needs.{needs}
 use Rattle.listing.proofs.list.record_line.Statement.{statement}

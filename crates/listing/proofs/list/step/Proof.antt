@@ -1,4 +1,4 @@
--- `listing::list::step` meets its contract. Each return is a case of its rule: `step-line`, `step-none` of the proofs of `listing`; the sums fit by `step-fits`. Assumes nothing.
+-- `listing::list::step` meets its contract. Each return is a case of its rule: `step-line`, `step-none` of proofs/Cases; the sums fit by `step-fits`. Assumes nothing.
 use Rattle.listing.proofs.Cases.{step-line, step-none, step-fits}
 use borrow.Author.Needs.{needs}
 use Rattle.listing.proofs.list.step.Statement.{statement}

@@ -1,4 +1,4 @@
--- `listing::list::turn` meets its contract. It is one push on the rest of the piece, with the bytes taken before added: `turn-done` of the proofs of `listing`; the sum is within the piece, `turn-fits`. Assumes nothing.
+-- `listing::list::turn` meets its contract. It is one push on the rest of the piece, with the bytes taken before added: `turn-done` of proofs/Lines; the sum is within the piece, `turn-fits`. Assumes nothing.
 use native.Mathlib.Omega.{arith}
 use Rattle.listing.proofs.Lines.{turn-done, turn-fits}
 use borrow.Author.Needs.{needs}

@@ -1,4 +1,4 @@
--- `RecordParser::is_clear` meets its contract. The laws `clearing` have a case for each return. Assumes nothing.
+-- `parser::RecordParser::is_clear` meets its contract. The laws `clearing` have a case for each return. Assumes nothing.
 use Rattle.parser.proofs.Cases.{clearing}
 use borrow.Author.Needs.{needs}
 use Rattle.parser.proofs.RecordParser.is_clear.Statement.{statement}

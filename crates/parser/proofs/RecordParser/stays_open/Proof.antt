@@ -1,4 +1,4 @@
--- `RecordParser::stays_open` meets its contract. The laws `opening` have a case for each return. Assumes nothing.
+-- `parser::RecordParser::stays_open` meets its contract. The laws `opening` have a case for each return. Assumes nothing.
 use Rattle.parser.proofs.Cases.{opening}
 use borrow.Author.Needs.{needs}
 use Rattle.parser.proofs.RecordParser.stays_open.Statement.{statement}

@@ -1,4 +1,4 @@
--- `push` meets its contract. The laws `pushing` have 23 and 21; the rest is the push of a sound parser. Assumes nothing.
+-- `parser::push::push` meets its contract. The laws `pushing` have 23 and 21; the rest is the push of a sound parser. Assumes nothing.
 use Rattle.parser.proofs.Cases.{pushing, sound-told}
 use borrow.Author.Needs.{needs}
 use Rattle.parser.proofs.push.push.Statement.{statement}

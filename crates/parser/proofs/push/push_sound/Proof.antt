@@ -1,4 +1,4 @@
--- `push_sound` meets its contract. The laws `going` have a case for each return: the latched error, or what the header step ensures. Assumes nothing.
+-- `parser::push::push_sound` meets its contract. The laws `going` have a case for each return: the latched error, or what the header step ensures. Assumes nothing.
 use Rattle.parser.proofs.Cases.{going, sound-count, sound-room}
 use borrow.Author.Needs.{needs}
 use Rattle.parser.proofs.push.push_sound.Statement.{statement}

@@ -1,4 +1,4 @@
--- `replay::agrees` is safe and ends. The length of its array is a law, which costs less than counting it. Assumes nothing.
+-- `replay_run::blocks::agrees` is safe and ends. The length of its array is a law, which costs less than counting it. Assumes nothing.
 use borrow.Author.Needs.{needs}
 use Prim.Native.Nat.{ℕ}
 use mathlib.Core.Path.{_≡_, sym, _∙_}
