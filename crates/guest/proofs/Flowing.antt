@@ -87,6 +87,10 @@ pub accepted-is : (n size : ℕ) (event : GuestEvent) (place : Place) (i : Ident
 accepted-is n size event place i x ei ex = λ j. record { identity = ei j; refusal = ex j; consumed = n; length = size; place = place; event = event }
 
 -- ---- DATA that the session takes
+-- a test that failed
+pub takes-none : (b : Bool) → false ≡ true → b ≡ true
+takes-none b e = cc
+
 pub takes-all : (g : GuestSession) (h : List ℕ) (d : Bool) (s : Sequence) (i : List ℕ) (q : Bool) (e : Epoch) (l m : ℕ) → d ≡ eqb (typeOf h) 5 && passes (headerChecks h) → not d ≡ false
     → s .0 ≡ sequenceOf h → s .0 ≡ g .«receive_sequence» .0 → i ≡ instanceOf h → q ≡ same i (g .identity .identity .«instance_id») → not q ≡ false
     → e .0 ≡ epochOf h → e .0 ≡ g .identity .identity .epoch .0 → g .«receive_sequence» .0 < 18446744073709551615 → l ≡ lengthOf h → m ≡ g .window - g .outstanding → leb l m ≡ true
