@@ -1,7 +1,7 @@
 // Parts of a stream, and sums over what was handed out.
 
 // Sums over numbers: plain, and of the plain ones, so that the order counts.
-#[derive(Drop)]
+#[derive(Clone, Copy)]
 pub struct Sums {
     pub plain: u64,
     pub weighted: u64,

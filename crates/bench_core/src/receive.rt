@@ -24,7 +24,7 @@ fn seen<'a>(
 }
 
 // A guest at a place of a stream, the end of the piece there, and the sums up to it.
-#[derive(Drop)]
+#[derive(Clone, Copy)]
 pub struct Run {
     pub guest: GuestSession,
     pub sums: Sums,

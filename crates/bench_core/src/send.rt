@@ -6,7 +6,7 @@ use crate::start::active_guest;
 use guest::GuestSession;
 
 // A guest at a place of the data, and where its output ends.
-#[derive(Drop)]
+#[derive(Clone, Copy)]
 pub struct Run {
     pub guest: GuestSession,
     pub at: usize,

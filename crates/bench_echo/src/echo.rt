@@ -14,28 +14,28 @@ use record::types::RecordType;
 use wire::Sequence;
 
 // The guest after a message, and where its answers end.
-#[derive(Drop)]
+#[derive(Clone, Copy)]
 pub struct GuestTurn {
     pub guest: GuestSession,
     pub next: usize,
 }
 
 // The relay after the guest's answers, and where its own ends.
-#[derive(Drop)]
+#[derive(Clone, Copy)]
 pub struct RelayTurn {
     pub parser: RecordParser,
     pub next: usize,
 }
 
 // The host after the echo, and the sums.
-#[derive(Drop)]
+#[derive(Clone, Copy)]
 pub struct HostTurn {
     pub host: HostSession,
     pub sums: Sums,
 }
 
 // Both ends and the relay between them.
-#[derive(Drop)]
+#[derive(Clone, Copy)]
 pub struct Link {
     pub host: HostSession,
     pub guest: GuestSession,

@@ -1,1 +1,3 @@
 // No code: claims over the rules.
+#![tactic(auto)]
+

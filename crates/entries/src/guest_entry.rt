@@ -15,7 +15,7 @@ use session::Identity;
 use wire::Refusal;
 
 // What a receive answers beside the session. The bytes of data are had by the guest's `payload`.
-#[derive(Drop)]
+#[derive(Clone, Copy)]
 pub struct ReceiveAnswer {
     pub refusal: Refusal,
     pub consumed: usize,
@@ -62,7 +62,7 @@ pub fn receive_once(session: GuestSession, piece: &[u8], stage: &mut [u8]) -> Re
 }
 
 // What a credit answers beside the session: a count of 0, and the position after the record.
-#[derive(Drop)]
+#[derive(Clone, Copy)]
 pub struct CreditAnswer {
     pub refusal: Refusal,
     pub count: usize,

@@ -11,7 +11,7 @@ use session::Identity;
 use wire::Refusal;
 
 // What a receive answers beside the session. The bytes of data are had by the host's `payload`.
-#[derive(Drop)]
+#[derive(Clone, Copy)]
 pub struct ReceiveAnswer {
     pub refusal: Refusal,
     pub consumed: usize,

@@ -17,7 +17,7 @@ use wire::{Refusal, Sequence};
 
 // What a receive reports. The identity of a reset stands beside it in the answer; the bytes of data
 // are had by `payload`.
-#[derive(Drop)]
+#[derive(Clone, Copy)]
 pub enum GuestEvent {
     Nothing,
     Reset,
@@ -25,7 +25,7 @@ pub enum GuestEvent {
 }
 
 // What `receive` answers. What the event does not use is zero.
-#[derive(Drop)]
+#[derive(Clone, Copy)]
 pub struct Received {
     pub refusal: Refusal,
     pub consumed: usize,

@@ -35,7 +35,7 @@ fn flows(session: GuestSession, room: usize) -> bool
 
 // What was made of a piece while DATA may flow: the parser's counts after it, the next sequence due,
 // and the answer. Where it was not taken nothing was done.
-#[derive(Drop)]
+#[derive(Clone, Copy)]
 struct Step {
     receive_sequence: Sequence,
     header_len: usize,
@@ -178,7 +178,7 @@ fn head_step(session: GuestSession, header: [u8; 44], piece: &[u8], stage: &mut 
 }
 
 // What a receive answers beside the session.
-#[derive(Drop)]
+#[derive(Clone, Copy)]
 struct Answer {
     identity: Identity,
     refusal: Refusal,

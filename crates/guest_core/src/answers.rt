@@ -7,7 +7,7 @@ use wire::Refusal;
 
 // What a call that writes answers: the bytes of data taken by `send`, else 0, and the position
 // after the record.
-#[derive(Drop)]
+#[derive(Clone, Copy)]
 pub struct Sent {
     pub refusal: Refusal,
     pub count: usize,

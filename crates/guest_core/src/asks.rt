@@ -8,21 +8,21 @@ use session::{OptionalIdentity, no_identity};
 use wire::Refusal;
 
 // What `state` answers.
-#[derive(Drop)]
+#[derive(Clone, Copy)]
 pub struct StateAnswer {
     pub refusal: Refusal,
     pub state: GuestState,
 }
 
 // What `identity` answers.
-#[derive(Drop)]
+#[derive(Clone, Copy)]
 pub struct IdentityAnswer {
     pub refusal: Refusal,
     pub identity: OptionalIdentity,
 }
 
 // What `window` answers: none unless Active.
-#[derive(Drop)]
+#[derive(Clone, Copy)]
 pub struct WindowAnswer {
     pub refusal: Refusal,
     pub present: bool,
@@ -30,7 +30,7 @@ pub struct WindowAnswer {
 }
 
 // What `outstanding` answers.
-#[derive(Drop)]
+#[derive(Clone, Copy)]
 pub struct OutstandingAnswer {
     pub refusal: Refusal,
     pub outstanding: u32,

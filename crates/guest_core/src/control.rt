@@ -19,7 +19,7 @@ use wire::numbers::u32_to_le_bytes;
 use wire::{Epoch, Refusal, Sequence};
 
 // What `disconnect` answers.
-#[derive(Drop)]
+#[derive(Clone, Copy)]
 pub struct Closed {
     pub refusal: Refusal,
     pub session: GuestSession,

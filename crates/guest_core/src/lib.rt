@@ -1,6 +1,8 @@
 // The guest's session by value (nvxs/guest.rs): what it is and whether it is sound, what it answers
 // when asked (`asks`), and its calls but `receive` (`control`, `send`). The crate `guest`, which a
 // guest's program opens, passes all of this on and adds `receive`.
+#![tactic(auto)]
+
 pub mod answers;
 pub mod asks;
 pub mod control;
@@ -16,7 +18,7 @@ use session::{OptionalIdentity, no_identity};
 use wire::Sequence;
 
 // State of the guest's session.
-#[derive(Drop)]
+#[derive(Clone, Copy)]
 pub enum GuestState {
     Detached,
     Attaching,
@@ -28,7 +30,7 @@ pub enum GuestState {
 
 // The guest's role in a session. The one byte of the state is last, so that the rest lies at even
 // places.
-#[derive(Drop)]
+#[derive(Clone, Copy)]
 pub struct GuestSession {
     pub parser: RecordParser,
     pub identity: OptionalIdentity,

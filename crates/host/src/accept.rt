@@ -20,7 +20,7 @@ use wire::{Refusal, Sequence};
 
 // What a receive reports. The identity of READY and RESET stands beside it in the answer; the bytes
 // of data are had by `payload`. A rejection carries the one error code there is.
-#[derive(Drop)]
+#[derive(Clone, Copy)]
 pub enum HostEvent {
     Nothing,
     Wait,
@@ -31,7 +31,7 @@ pub enum HostEvent {
 }
 
 // What `receive` answers. What the event does not use is zero.
-#[derive(Drop)]
+#[derive(Clone, Copy)]
 pub struct Received {
     pub refusal: Refusal,
     pub consumed: usize,

@@ -8,14 +8,14 @@ use session::{OptionalIdentity, no_identity};
 use wire::Refusal;
 
 // What `state` answers.
-#[derive(Drop)]
+#[derive(Clone, Copy)]
 pub struct StateAnswer {
     pub refusal: Refusal,
     pub state: HostState,
 }
 
 // What `identity` answers.
-#[derive(Drop)]
+#[derive(Clone, Copy)]
 pub struct IdentityAnswer {
     pub refusal: Refusal,
     pub identity: OptionalIdentity,

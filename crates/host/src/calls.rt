@@ -17,7 +17,7 @@ use wire::{Epoch, Refusal, Sequence};
 
 // What a call that writes answers: the bytes of data taken by `send`, else 0, and the position
 // after the record.
-#[derive(Drop)]
+#[derive(Clone, Copy)]
 pub struct Sent {
     pub refusal: Refusal,
     pub count: usize,
@@ -26,7 +26,7 @@ pub struct Sent {
 }
 
 // What `disconnect` answers.
-#[derive(Drop)]
+#[derive(Clone, Copy)]
 pub struct Closed {
     pub refusal: Refusal,
     pub session: HostSession,

@@ -1,6 +1,8 @@
 // The host's session by value (nvxs/host.rs): what it is and whether it is sound, what it answers
 // when asked (`asks`), the calls that write, and disconnect (`calls`), what stops a record (`checks`)
 // and `receive` (`accept`), with `payload` for the bytes of DATA that a receive handed out.
+#![tactic(auto)]
+
 mod accept;
 mod asks;
 mod calls;
@@ -20,7 +22,7 @@ pub use session::{Identity, OptionalIdentity};
 pub use wire::{Epoch, Refusal, Sequence};
 
 // State of the host's session.
-#[derive(Drop)]
+#[derive(Clone, Copy)]
 pub enum HostState {
     Detached,
     Attaching,
@@ -32,7 +34,7 @@ pub enum HostState {
 }
 
 // The host's role in a session. The one-byte field is last, so that the others lie at even places.
-#[derive(Drop)]
+#[derive(Clone, Copy)]
 pub struct HostSession {
     pub parser: RecordParser,
     pub identity: OptionalIdentity,

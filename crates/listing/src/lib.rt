@@ -1,5 +1,7 @@
 // The link listing (01): its state by value, whether it is sound (`reach`, `settle`), the line of
 // names and the last line, and the lines of a piece (`list`).
+#![tactic(auto)]
+
 pub mod list;
 mod reach;
 mod settle;
@@ -18,7 +20,7 @@ use wire::Refusal;
 
 // The record under way in its parser, its offset in the capture, and 01's open before it. Between
 // records the parser has no byte of a header, and of a refusal it has the number alone.
-#[derive(Drop)]
+#[derive(Clone, Copy)]
 pub struct Listing {
     pub parser: RecordParser,
     pub offset: u64,
@@ -27,7 +29,7 @@ pub struct Listing {
 
 // What `listing::list::list` answers: the bytes taken of the piece, the bytes written at the start of
 // the output, and the listing after it. A refusal of 1 to 9 is the capture's own, and ends it.
-#[derive(Drop)]
+#[derive(Clone, Copy)]
 pub struct Listed {
     pub refusal: Refusal,
     pub taken: usize,

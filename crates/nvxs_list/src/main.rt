@@ -1,4 +1,6 @@
 // Lists the records of a capture: standard input to standard output (01, "The link listing").
+#![tactic(auto)]
+
 ghost use Rattle.std.specs.Prelude.{◌≡◌, true, ◌≤◌, ◌<◌, length, take};
 ghost use Rattle.nvxs_list.specs.Feeding.{Feeds};
 
@@ -7,7 +9,7 @@ use listing::{LIMIT, Listing, names};
 
 // The listing after a piece, and whether there is more to read: not after a refusal, at the end of
 // reading, or where the output is closed.
-#[derive(Drop)]
+#[derive(Clone, Copy)]
 struct Fed {
     listing: Listing,
     more: bool,

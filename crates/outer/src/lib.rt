@@ -1,5 +1,7 @@
 // Outer records (magic `NVXS`), the plain layer: the port of outer.rs. A record is a 44-byte
 // header and a payload; `payloads` has the ack and credit pairs.
+#![tactic(auto)]
+
 pub mod payloads;
 
 ghost use Rattle.std.specs.Prelude.{◌≡◌, ◌+◌, length};
@@ -15,7 +17,7 @@ pub const OUTER_HEADER_LEN: usize = 44;
 // Largest payload of one outer record.
 pub const OUTER_MAX_PAYLOAD: usize = 65536;
 // Decoded outer record header.
-#[derive(Drop)]
+#[derive(Clone, Copy)]
 pub struct OuterHeader {
     pub record_type: u8,
     pub instance_id: [u8; 16],
@@ -25,14 +27,14 @@ pub struct OuterHeader {
 }
 
 // What an operation that writes answers: the refusal, and the position after the record.
-#[derive(Drop)]
+#[derive(Clone, Copy)]
 pub struct Written {
     pub refusal: Refusal,
     pub next: usize,
 }
 
 // What decoding a header answers.
-#[derive(Drop)]
+#[derive(Clone, Copy)]
 pub struct DecodedHeader {
     pub refusal: Refusal,
     pub header: OuterHeader,

@@ -14,14 +14,14 @@ pub const OUTER_MIN_RECEIVE_WINDOW: u32 = 65536;
 pub const OUTER_MAX_RECEIVE_WINDOW: u32 = 4194314;
 
 // What encoding an ACK or CREDIT payload answers.
-#[derive(Drop)]
+#[derive(Clone, Copy)]
 pub struct EncodedPayload {
     pub refusal: Refusal,
     pub payload: [u8; 4],
 }
 
 // What decoding an ACK or CREDIT payload answers.
-#[derive(Drop)]
+#[derive(Clone, Copy)]
 pub struct DecodedPayload {
     pub refusal: Refusal,
     pub value: u32,

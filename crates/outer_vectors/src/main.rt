@@ -1,4 +1,6 @@
 // Worked byte strings of the plain layer, a line for each call: what was called, and what came.
+#![tactic(auto)]
+
 mod headers;
 mod pairs;
 mod records;

@@ -1,6 +1,8 @@
 // The incremental parser of an NVXS byte stream (the second half of nvxs/record.rs): its value,
 // whether it is sound and what it answers when asked, and the payload of a complete record.
 // `push` has the push.
+#![tactic(auto)]
+
 pub mod push;
 
 ghost use Rattle.std.specs.Prelude.{◌≡◌, ◌&&◌, eqb, ltb, ◌+◌};
@@ -15,7 +17,7 @@ use wire::{Refusal, fields};
 
 // The record in progress: its header bytes beside the counts of header and payload bytes that have
 // come, and the error that ended the stream (number 0: none).
-#[derive(Drop)]
+#[derive(Clone, Copy)]
 pub struct RecordParser {
     pub header: [u8; 44],
     pub header_len: usize,
@@ -24,14 +26,14 @@ pub struct RecordParser {
 }
 
 // Where a payload lies: in the piece from an index on, or at the start of the stage.
-#[derive(Drop)]
+#[derive(Clone, Copy)]
 pub enum Place {
     Piece(usize),
     Stage,
 }
 
 // What a push answers. Where no record is complete, `record` and `place` are zero.
-#[derive(Drop)]
+#[derive(Clone, Copy)]
 pub struct Pushed {
     pub refusal: Refusal,
     pub consumed: usize,
@@ -42,7 +44,7 @@ pub struct Pushed {
 }
 
 // What an ask answers: the refusal, or a number of bytes.
-#[derive(Drop)]
+#[derive(Clone, Copy)]
 pub struct Count {
     pub refusal: Refusal,
     pub count: usize,

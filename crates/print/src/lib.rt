@@ -1,5 +1,7 @@
 // Text, numbers and bytes on standard output. Of what is written no contract can speak, so these
 // functions say nothing in an `ensures`; each is proved safe and to end.
+#![tactic(auto)]
+
 ghost use Rattle.std.specs.Prelude.{◌<◌};
 
 // Internal: only writes to standard output.

@@ -1,6 +1,8 @@
 // Records (the first half of nvxs/record.rs): what a header says as a value, and what a record
 // answers when asked. `types` has the record types and error codes, `checks` and `header` the checks
 // of a record's fields and of its header, `codec` the header read and the encoder.
+#![tactic(auto)]
+
 pub mod checks;
 pub mod codec;
 pub mod header;
@@ -15,7 +17,7 @@ use outer::payloads::value;
 use wire::{Epoch, Sequence};
 
 // A record that was decoded and validated, without its payload.
-#[derive(Drop)]
+#[derive(Clone, Copy)]
 pub struct Record {
     pub record_type: RecordType,
     pub instance_id: [u8; 16],
@@ -25,7 +27,7 @@ pub struct Record {
 }
 
 // A number that may be missing.
-#[derive(Drop)]
+#[derive(Clone, Copy)]
 pub struct Value {
     pub present: bool,
     pub value: u32,

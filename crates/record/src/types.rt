@@ -9,7 +9,7 @@ use outer::OUTER_MAX_PAYLOAD;
 pub const CAPABILITY_LEN: usize = 32;
 
 // Type of an NVXS record, the byte at offset 6 of its header.
-#[derive(Drop)]
+#[derive(Clone, Copy)]
 pub enum RecordType {
     GuestAttach,
     HostAttach,
@@ -23,20 +23,20 @@ pub enum RecordType {
 }
 
 // What a type's code stands for.
-#[derive(Drop)]
+#[derive(Clone, Copy)]
 pub enum TypeLookup {
     Known(RecordType),
     Unknown,
 }
 
 // Code of an ERROR record. Protocol version 1 defines one.
-#[derive(Drop)]
+#[derive(Clone, Copy)]
 pub enum ErrorCode {
     Authentication,
 }
 
 // What the value of an ERROR record stands for.
-#[derive(Drop)]
+#[derive(Clone, Copy)]
 pub enum ErrorLookup {
     Known(ErrorCode),
     Unknown,

@@ -1,4 +1,6 @@
 // Worked records, a line for each call or stream: what was called, and what came.
+#![tactic(auto)]
+
 mod answers;
 mod headers;
 mod lengths;

@@ -10,7 +10,7 @@ use wire::header::encode_header;
 use wire::{Epoch, Sequence, least};
 
 // Instance, epoch and sequence of a record.
-#[derive(Drop)]
+#[derive(Clone, Copy)]
 pub struct Fields {
     pub instance_id: [u8; 16],
     pub epoch: Epoch,

@@ -22,7 +22,7 @@ pub const TYPE: usize = 115;
 
 // A part of the call's input (1), of the memory (2), of the stage that starts there (3), or nothing
 // (0). 1 and 3 are had by the port's own `payload`.
-#[derive(Drop)]
+#[derive(Clone, Copy)]
 pub struct Part {
     pub source: u8,
     pub from: usize,
@@ -30,14 +30,14 @@ pub struct Part {
 }
 
 // A value that may be missing: its mark is 1 where it is there.
-#[derive(Drop)]
+#[derive(Clone, Copy)]
 pub struct Ask {
     pub mark: u8,
     pub value: u32,
 }
 
 // The answer of a call. The page has its head and the bytes of its state; what does not apply is 0.
-#[derive(Drop)]
+#[derive(Clone, Copy)]
 pub struct Answer {
     pub page: [u8; 320],
     pub state: usize,

@@ -15,7 +15,7 @@ pub const OUTPUT: usize = 196800;
 
 // A frame: the operation, two figures, the place and the bytes of its input, and where the frame
 // ends. `thin`: a session's receive and credit go by the thin entries.
-#[derive(Drop)]
+#[derive(Clone, Copy)]
 pub struct Frame {
     pub op: u8,
     pub thin: bool,

@@ -1,6 +1,8 @@
 // The calls of a guest's session, operations 10 to 16 and 50, for the replay
 // (tests/differential/FORMAT.md). Harness code: `turn` is for the replay alone and says nothing in an
 // `ensures`. It is proved safe and to end; the run holds what it does to the Rust's answers.
+#![tactic(auto)]
+
 use entries::guest_entry::{credit_once, receive_once};
 use guest::{Closed, GuestEvent, GuestSession, Received, Sent, WindowAnswer};
 use replay_answer::answer::{
@@ -15,7 +17,7 @@ use wire::Sequence;
 const STAGE: usize = 0;
 
 // The guest after a call, and the answer.
-#[derive(Drop)]
+#[derive(Clone, Copy)]
 pub struct Ran {
     pub guest: GuestSession,
     pub answer: Answer,

@@ -1,6 +1,8 @@
 // The calls of a host's session, operations 20 to 26 and 51, for the replay
 // (tests/differential/FORMAT.md). Harness code: `turn` is for the replay alone and says nothing in an
 // `ensures`. It is proved safe and to end; the run holds what it does to the Rust's answers.
+#![tactic(auto)]
+
 use entries::host_entry::receive_once;
 use host::{Closed, HostEvent, HostSession, Received, Sent};
 use replay_answer::answer::{
@@ -15,7 +17,7 @@ use wire::{Refusal, Sequence};
 const STAGE: usize = AREA;
 
 // The host after a call, and the answer.
-#[derive(Drop)]
+#[derive(Clone, Copy)]
 pub struct Ran {
     pub host: HostSession,
     pub answer: Answer,

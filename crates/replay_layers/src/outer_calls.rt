@@ -13,7 +13,7 @@ use wire::numbers::u32_from_le_bytes;
 use wire::{Epoch, Sequence};
 
 // The fields that stand before an encoder's payload: type, instance, epoch, sequence.
-#[derive(Drop)]
+#[derive(Clone, Copy)]
 pub struct Fields {
     pub record_type: u8,
     pub instance_id: [u8; 16],

@@ -14,7 +14,7 @@ use session::Identity;
 const STAGE: usize = 131200;
 
 // The parser after a call, and the answer.
-#[derive(Drop)]
+#[derive(Clone, Copy)]
 pub struct Ran {
     pub parser: RecordParser,
     pub answer: Answer,

@@ -11,7 +11,7 @@ use replay_answer::frame::{Frame, cut, frame_at};
 use replay_layers::{parser_calls, plain};
 
 // The sessions and the parser that the calls of a block are on.
-#[derive(Drop)]
+#[derive(Clone, Copy)]
 struct Sessions {
     guest: GuestSession,
     host: HostSession,
@@ -19,7 +19,7 @@ struct Sessions {
 }
 
 // The sessions after a call, and the place where the answers end.
-#[derive(Drop)]
+#[derive(Clone, Copy)]
 struct Turned {
     sessions: Sessions,
     end: usize,

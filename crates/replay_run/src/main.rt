@@ -1,5 +1,7 @@
 // Reads blocks of calls from standard input and writes their answers to standard output
 // (tests/differential/FORMAT.md).
+#![tactic(auto)]
+
 mod blocks;
 mod emit;
 

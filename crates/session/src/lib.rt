@@ -1,5 +1,7 @@
 // What the two ends of a session share (nvxs/mod.rs): identities and the sequence after another, the
 // checks of a record's sequence and identity (`checks`), and the encoders of the next record (`next`).
+#![tactic(auto)]
+
 pub mod checks;
 pub mod next;
 
@@ -13,21 +15,21 @@ use record::types::RecordType;
 use wire::{Epoch, Refusal, Sequence};
 
 // Identity of one epoch of a session.
-#[derive(Drop)]
+#[derive(Clone, Copy)]
 pub struct Identity {
     pub instance_id: [u8; 16],
     pub epoch: Epoch,
 }
 
 // An identity that may be missing. Where none is held, the bytes beside the mark mean nothing.
-#[derive(Drop)]
+#[derive(Clone, Copy)]
 pub struct OptionalIdentity {
     pub present: bool,
     pub identity: Identity,
 }
 
 // The sequence after another, or the refusal.
-#[derive(Drop)]
+#[derive(Clone, Copy)]
 pub struct NextSequence {
     pub refusal: Refusal,
     pub sequence: Sequence,

@@ -11,7 +11,7 @@ use wire::{Refusal, Sequence, least};
 
 // What encoding the next record answers: bytes of data taken, the position after the record and the
 // sequence after it.
-#[derive(Drop)]
+#[derive(Clone, Copy)]
 pub struct Encoded {
     pub refusal: Refusal,
     pub count: usize,

@@ -1,4 +1,6 @@
 // A number in decimal, and the lines of the listing (`lines`), put into a lent buffer at a place.
+#![tactic(auto)]
+
 pub mod lines;
 
 ghost use Rattle.std.specs.Prelude.{◌≡◌, ◌+◌, ◌≤◌, length};

@@ -1,6 +1,8 @@
 // What every layer uses: refusals, epochs and sequences, numbers of fixed width (`numbers`), a
 // header's 44 bytes read (`fields`) and written (`header`), and bytes copied and cut (`copying`,
 // `parts`).
+#![tactic(auto)]
+
 pub mod copying;
 pub mod fields;
 pub mod header;
@@ -12,16 +14,16 @@ ghost use Rattle.wire.specs.Refusals.{refusal, none};
 
 // The epoch of a session: a RESET starts a new one. (01: epoch and sequence are counted
 // separately, and one given in the other's place does not build.)
-#[derive(Drop)]
+#[derive(Clone, Copy)]
 pub struct Epoch(pub u64);
 
 // The number of a record in its direction of a session.
-#[derive(Drop)]
+#[derive(Clone, Copy)]
 pub struct Sequence(pub u64);
 
 // 01's record of a refusal: its number, three figures and two fields of 16 bytes; what a number
 // does not use is 0. Number 0: no refusal. All of it is in whole words, which move without gaps.
-#[derive(Drop)]
+#[derive(Clone, Copy)]
 pub struct Refusal {
     pub number: u64,
     pub a: u64,

@@ -1,0 +1,10 @@
+use Rattle.std.proofs.Common.{◌-◌, ◌≡◌, ◌≤◌, length, take}
+use lib.Seq.{paste}
+use Rattle.wire.proofs.copying.give_out.Given as goal
+
+abbrev pub invariant-loop-i : goal.invariant-loop-i
+invariant-loop-i l = (l.i ≤ l.count) × (l.target ≡ paste l.initial.target l.at (take l.count l.block) l.i) × (length l.target ≡ length l.initial.target)
+
+-- proposed from the loop's first test
+abbrev pub decreases-loop-i : goal.decreases-loop-i
+decreases-loop-i l = l.count - l.i
