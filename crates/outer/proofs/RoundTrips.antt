@@ -10,7 +10,7 @@ use lib.Seq.{take-take, take_at}
 use lib.Dec.{eqb}
 use borrow.Author.Tests.{eqb-true, leb-true, le-leb}
 use Rattle.wire.specs.Bytes.{from_le, to_le, bytes_at, overlay, Octets}
-use Rattle.wire.specs.Refusals.{refusal, none, first, passes}
+use Rattle.wire.specs.Refusals.{none, first, passes}
 use Rattle.wire.specs.Header.{magic, magic_of, version_of, type_of, flags_of, instance_of, epoch_of, sequence_of, length_of, header_bytes}
 use Rattle.outer.specs.Outer.{Outcome, write, encode_outer, outer_rows, header_rows, header_of, outer_ok, decode_outer_header}
 use Rattle.wire.specs.declared.Refusal.{Refusal}
