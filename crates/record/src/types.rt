@@ -71,6 +71,7 @@ impl RecordType {
     }
 
     // The type with a code.
+    #[tactic(auto, unfolding(crate::specs::Types::type_at))]
     pub fn from_code(code: u8) -> TypeLookup
         ensures { result ≡ type_at code }
     {
@@ -106,6 +107,7 @@ impl RecordType {
     }
 
     // Whether a record of this type may carry a payload of so many bytes.
+    #[tactic(auto, unfolding(crate::specs::Types::length_ok))]
     pub fn allows_length(self, length: usize) -> bool
         ensures { result ≡ length_ok (code_of self) length }
     {
@@ -134,6 +136,7 @@ impl ErrorCode {
     }
 
     // The code with a value.
+    #[tactic(auto, unfolding(crate::specs::Types::error_at))]
     pub fn from_code(code: u32) -> ErrorLookup
         ensures { result ≡ error_at code }
     {

@@ -1,0 +1,11 @@
+use Rattle.std.proofs.Common.{◌-◌, ◌≡◌, ◌≤◌, length}
+use Rattle.record.specs.Record.{all_zero}
+use lib.ListN.{take}
+use Rattle.record.proofs.checks.all_zero.Given as goal
+
+abbrev pub invariant-loop-i : goal.invariant-loop-i
+invariant-loop-i l = (l.i ≤ 16) × (l.zero ≡ all_zero (take l.i l.bytes)) × (length l.bytes ≡ 16)
+
+-- proposed from the loop's first test
+abbrev pub decreases-loop-i : goal.decreases-loop-i
+decreases-loop-i l = 16 - l.i

@@ -1,0 +1,10 @@
+use Rattle.record.proofs.Cases.{error_stops, error_passes}
+use Rattle.record.proofs.checks.check_error.Goals as goal
+
+-- a value that has no code gives 7
+pub returns-in_default : goal.returns-in_default
+returns-in_default c = search error_stops
+
+-- one that has a code passes
+pub returns : goal.returns
+returns c = search error_passes
