@@ -10,7 +10,7 @@ use Rattle.wire.specs.declared.Refusal.{Refusal}
 use Rattle.wire.proofs.Rows.{row_stops, row_passes, no_rows, rows_stop, rows_pass}
 use Rattle.record.specs.Record.{all_zero}
 use Rattle.record.specs.declared.Record.{Record}
-use Rattle.session.specs.Checks.{same, identity, no_identity, identity_ok, holds, shown, record_identity, last_sequence, next_row, next_sequence, sequence_row, other_instance, instance_row, epoch_row}
+use Rattle.session.specs.Checks.{same, no_identity, identity_ok, holds, shown, record_identity, last_sequence, next_row, next_sequence, sequence_row, other_instance, instance_row, epoch_row}
 use Rattle.session.specs.declared.Identity.{Identity}
 use Rattle.session.specs.declared.OptionalIdentity.{OptionalIdentity}
 use Rattle.session.specs.declared.NextSequence.{NextSequence}

@@ -1,7 +1,7 @@
 -- The encoders of the next record: 16 (a type), then the encoder's own refusals, 22 the last.
 use Rattle.std.specs.Prelude.{ℕ, ◌+◌, min, Bool, List, [], ◌∷◌, ◌++◌, length, take}
 use Rattle.wire.specs.Bytes.{overlay}
-use Rattle.wire.specs.Refusals.{pick, refusal, none, first, passes}
+use Rattle.wire.specs.Refusals.{pick, none, first, passes}
 use Rattle.outer.specs.Outer.{max_payload, room_row}
 use Rattle.wire.specs.declared.Refusal.{Refusal}
 use Rattle.record.specs.Record.{record_rows, record_bytes}

@@ -1,7 +1,4 @@
-use Rattle.std.proofs.Common.{rules, ◌≡◌, ◌&&◌, eqb, ltb, ◌+◌, ℕ, ◌-◌, ◌*◌, ◌<◌, ◌≤◌, length, ◌/◌, ◌%◌, Bool, true, false, List, [], ◌∷◌, ◌++◌, slice_index_or, slice_set, bit_and, bit_or, Fits, w8, w32, w64, Bor, MutBor}
-use Rattle.wire.specs.Header.{length_of}
-use Rattle.parser.specs.Push.{fresh, counts_ok, error_ok, sound_parser, clear, payload_at, needed_of, buffered_of, counted}
-use Rattle.std.proofs.Common.{arith}
+use Rattle.std.proofs.Common.{arith, ap, not}
 use Rattle.parser.proofs.Cases.{asking, sound_total}
 use Rattle.parser.proofs.RecordParser.buffered.Goals as goal
 
@@ -11,7 +8,7 @@ returns-then-not-is_sound c = search asking
 
 -- src/lib.rt:179:20
 pub overflow_add-result : goal.overflow_add-result
-overflow_add-result c = omega (arith, sound_total _ _ c.is_sound.ensures c.if-not-is_sound.false)
+overflow_add-result c = omega (arith, sound_total _ _ c.is_sound.ensures (ap not c.if-not-is_sound.false))
 
 -- src/lib.rt:168:5
 pub returns : goal.returns
