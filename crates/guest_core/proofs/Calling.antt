@@ -25,7 +25,6 @@ use Rattle.guest_core.specs.Calls.{attach_rows, attach, ack_rows, acknowledge, d
 use Rattle.guest_core.specs.declared.GuestState.TheVariants as State
 use Rattle.guest_core.specs.declared.GuestSession.{GuestSession}
 use Rattle.guest_core.specs.declared.answers.Sent.{Sent}
-use Rattle.guest_core.specs.declared.control.Closed.{Closed}
 use Rattle.guest_core.proofs.Soundness.{sound_inside}
 use Rattle.guest_core.proofs.Writing.{begin, call_stops, goes_on, written_stops, written_does, value_back}
 
