@@ -27,7 +27,7 @@ use Rattle.host.specs.State.{code, is_open, sound_host, with_state, next_host}
 use Rattle.host.proofs.Soundness.{sound_inside}
 use Rattle.host.specs.Checks.{record_rows}
 use Rattle.host.proofs.Checking.{type_numbered}
-use Rattle.host.specs.Receive.{Receive, told, answered, refused, reports, effect, accept, after_push, receive_rows, receive, receive_stage, Outcome, outcome, receive_of}
+use Rattle.host.specs.Receive.{Receive, told, answered, refused, reports, effect, accept, after_push, receive_rows, receive, receive_stage, outcome, receive_of}
 use Rattle.host.specs.declared.HostState.{HostState}
 use Rattle.host.specs.declared.HostState.TheVariants as State
 use Rattle.host.specs.declared.accept.HostEvent.{HostEvent}
