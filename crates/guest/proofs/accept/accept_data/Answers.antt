@@ -1,9 +1,3 @@
-use Rattle.std.proofs.Common.{rules, ◌≡◌, ◌&&◌, ◌+◌, ◌≤◌, ◌<◌, leb, ℕ, ◌-◌, ◌*◌, length, ◌/◌, ◌%◌, Bool, true, false, nat_eq, nat_lt, List, [], ◌∷◌, ◌++◌, slice_index_or, slice_set, bit_and, bit_or, Fits, w8, w32, w64, Bor, MutBor}
-use Rattle.session.specs.Checks.{last_sequence}
-use Rattle.guest_core.specs.State.{with_state, reset_session, data_guest}
-use Rattle.guest_core.specs.declared.GuestState.TheVariants as State
-use Rattle.guest.specs.Receive.{told, refused, accept_reset, accept_data, accept, after_push, receive_of}
-use Rattle.guest.specs.Receive as receiving
 use Rattle.guest.proofs.Receiving.{accepting-data, data-asks}
 use Rattle.guest.proofs.accept.accept_data.Goals as goal
 

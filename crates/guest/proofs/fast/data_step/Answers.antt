@@ -1,11 +1,4 @@
-use Rattle.std.proofs.Common.{rules, ◌≡◌, true, ◌+◌, ◌^◌, ◌≤◌, ◌<◌, length, ℕ, ◌-◌, ◌*◌, ◌/◌, ◌%◌, Bool, false, nat_eq, nat_lt, List, [], ◌∷◌, ◌++◌, slice_index_or, slice_set, bit_and, bit_or, Fits, w8, w32, w64, Bor, MutBor}
-use Rattle.wire.specs.Header.{length_of}
-use Rattle.parser.specs.Push.{head_with, push_of}
-use Rattle.session.specs.Checks.{last_sequence}
-use Rattle.guest_core.specs.State.{active_guest}
-use Rattle.guest.specs.Receive.{receive_of}
-use Rattle.guest.specs.Receive as receiving
-use Rattle.guest.specs.Flow.{flowing, after44, not_taken, waits_at, hands_out, takes_data, Stepped, accepted_with, answer_of, with_session}
+use Rattle.std.proofs.Common.{ap, not}
 use Rattle.guest_core.proofs.Soundness.{active_low}
 use Rattle.guest.proofs.Flowing.{step_not, data_waits, data_piece, data_stage, data_next}
 use Rattle.guest.proofs.fast.data_step.Goals as goal
@@ -20,7 +13,7 @@ returns-then-before-n c = search (active_low, data_piece, data_stage, data_waits
 
 -- src/fast.rt:151:9
 pub hands-requires : goal.hands-requires
-hands-requires c = data_next _ _ _ c.takes.ensures c.if-not-takes.false
+hands-requires c = data_next _ _ _ c.takes.ensures (ap not c.if-not-takes.false)
 
 -- src/fast.rt:151:9
 pub returns-then-before-eq0 : goal.returns-then-before-eq0
@@ -28,7 +21,7 @@ returns-then-before-eq0 c = search (active_low, data_piece, data_stage, data_wai
 
 -- src/fast.rt:154:5
 pub hands-requires-2 : goal.hands-requires-2
-hands-requires-2 c = data_next _ _ _ c.takes.ensures c.if-not-takes.false
+hands-requires-2 c = data_next _ _ _ c.takes.ensures (ap not c.if-not-takes.false)
 
 -- src/fast.rt:125:1
 pub returns : goal.returns

@@ -1,11 +1,4 @@
-use Rattle.std.proofs.Common.{rules, ◌≡◌, true, ◌+◌, ◌^◌, ◌≤◌, ◌<◌, length, ℕ, ◌-◌, ◌*◌, ◌/◌, ◌%◌, Bool, false, nat_eq, nat_lt, List, [], ◌∷◌, ◌++◌, slice_index_or, slice_set, bit_and, bit_or, Fits, w8, w32, w64, Bor, MutBor}
-use Rattle.wire.specs.Header.{length_of}
-use Rattle.parser.specs.Push.{head_with, push_of}
-use Rattle.session.specs.Checks.{last_sequence}
-use Rattle.guest_core.specs.State.{active_guest}
-use Rattle.guest.specs.Receive.{receive_of}
-use Rattle.guest.specs.Receive as receiving
-use Rattle.guest.specs.Flow.{flowing, after44, not_taken, waits_at, hands_out, takes_data, Stepped, accepted_with, answer_of, with_session}
+use Rattle.std.proofs.Common.{rules}
 use Rattle.parser.proofs.Cases.{sound_count}
 use Rattle.guest.proofs.Flowing.{flow_sound, front_waits, front_goes, front_asks}
 use Rattle.guest.proofs.fast.head_step.Goals as goal
@@ -23,7 +16,7 @@ pub data_step-requires : goal.data_step-requires
 data_step-requires c =
     let s = c.args in
     let p = c.requires in
-    let a = front_asks s.session s.piece.now s.stage.now c.least-n.result s.t2 p.0 c.least-n.ensures p.1 in
+    let a = front_asks s.session s.piece.now s.stage.now c.least-n.result s.header p.0 c.least-n.ensures p.1 in
     (a.0, a.1, a.2, search rules)
 
 -- src/fast.rt:168:1
