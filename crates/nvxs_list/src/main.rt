@@ -6,6 +6,7 @@ ghost use Rattle.nvxs_list.specs.Feeding.{Feeds};
 
 use listing::list::list;
 use listing::{LIMIT, Listing, names};
+use std::io::{Read, Stdin};
 
 // The listing after a piece, and whether there is more to read: not after a refusal, at the end of
 // reading, or where the output is closed.
@@ -78,18 +79,22 @@ fn feed_first(
 }
 
 // Reads once and lists what came. A read that fails is the end of the input.
-fn read_once(listing: Listing, buffer: &mut [u8], stage: &mut [u8], output: &mut [u8]) -> Fed
+fn read_once(
+    mut input: Stdin,
+    listing: Listing,
+    buffer: &mut [u8],
+    stage: &mut [u8],
+    output: &mut [u8],
+) -> Fed
     requires { 126 ≤ length output.old }
 {
-    let got = libc::read(0, buffer);
-    if got < 0 {
+    let Ok(count) = input.read(buffer) else {
         io::write_all(2, b"nvxs_list: standard input cannot be read\n");
         return Fed {
             listing,
             more: false,
         };
-    }
-    let count = io::count(got, buffer);
+    };
     if count == 0 {
         return Fed {
             listing,
@@ -101,7 +106,7 @@ fn read_once(listing: Listing, buffer: &mut [u8], stage: &mut [u8], output: &mut
 
 // Reads to the end, and lists. Each turn but the last reads a byte or more, so that LIMIT turns are
 // enough.
-fn read_all(output: &mut [u8]) -> Listing
+fn read_all(input: Stdin, output: &mut [u8]) -> Listing
     requires { 126 ≤ length output.old }
 {
     let mut stage = [0u8; 65536];
@@ -110,7 +115,7 @@ fn read_all(output: &mut [u8]) -> Listing
     let mut turns = LIMIT;
     while 0 < turns {
         turns -= 1;
-        let fed = read_once(listing, &mut buffer, &mut stage, output);
+        let fed = read_once(input, listing, &mut buffer, &mut stage, output);
         let next = fed.listing;
         listing = next;
         if !fed.more {
@@ -120,11 +125,11 @@ fn read_all(output: &mut [u8]) -> Listing
     listing
 }
 
-fn main() {
+fn main(rt: HostRuntime) {
     let mut output = [0u8; 65536];
     let first = names(&mut output);
     if flush(&output, first.next) {
-        let listing = read_all(&mut output);
+        let listing = read_all(rt.stdin(), &mut output);
         let last = listing.end(&mut output);
         flush(&output, last.next);
     }
