@@ -1,10 +1,10 @@
 -- The loop over a piece: the calls so far were lent its first bytes, and one more call is lent the rest. Assumes nothing.
 use Prim.Native.Nat.{ℕ, ◌+◌, ◌-◌, ◌≤◌}
 use mathlib.Core.Path.{◌≡◌, refl, sym, ap, subst, ◌∙◌}
-use mathlib.Core.Bool.{true, false}
+use mathlib.Core.Bool.{false}
 use mathlib.Core.List.{List, [], ◌∷◌, ◌++◌, append-nil}
 use native.Mathlib.Omega.{arith}
-use lib.ListN.{length, take, drop, length-drop, drop_of_length-le}
+use lib.ListN.{length, take, drop, length-drop}
 use lib.Seq.{drop-drop}
 use Rattle.wire.proofs.PartLaws.{part_end}
 use Rattle.text.specs.Lines.{line_room}
@@ -14,7 +14,6 @@ use Rattle.listing.specs.declared.Listing.{Listing}
 use Rattle.listing.specs.declared.Listed.{Listed}
 use Rattle.listing.proofs.Bounds.{list_within}
 use Rattle.nvxs_list.specs.Feeding.{Feeds}
-use Rattle.nvxs_list.specs.declared.Fed.{Fed}
 
 -- one more call
 calls_more : {s t : Listing} {stage input left after : List ℕ} {texts : List (List ℕ)} → Calls s stage input left t after texts → (piece rest output : List ℕ)
@@ -27,17 +26,17 @@ calls_more {s} {stage = stage} stop piece rest output e l =
 calls_more (call p r o k c) piece rest output e l = call p r o k (calls_more c piece rest output e l)
 
 -- what holds at the head of the loop
-pub record Fed-so-far (s₀ : Listing) (piece stage₀ output₀ : List ℕ) (s : Listing) (stage output : List ℕ) (taken : ℕ) : Type 0 where
+pub record FedSoFar (s₀ : Listing) (piece stage₀ output₀ : List ℕ) (s : Listing) (stage output : List ℕ) (taken : ℕ) : Type 0 where
   pub texts : List (List ℕ)
   pub calls : Calls s₀ stage₀ piece (drop taken piece) s stage texts
   pub within : taken ≤ length piece
   pub stage_size : length stage ≡ length stage₀
   pub output_size : length output ≡ length output₀
 
-pub fed_first : (s : Listing) (piece stage output : List ℕ) → Fed-so-far s piece stage output s stage output 0
+pub fed_first : (s : Listing) (piece stage output : List ℕ) → FedSoFar s piece stage output s stage output 0
 fed_first s piece stage output = record { texts = []; calls = stop; within = omega arith; stage_size = refl; output_size = refl }
 
-module _ {s₀ : Listing} {piece stage₀ output₀ : List ℕ} {s : Listing} {stage output : List ℕ} {taken : ℕ} (f : Fed-so-far s₀ piece stage₀ output₀ s stage output taken)
+module _ {s₀ : Listing} {piece stage₀ output₀ : List ℕ} {s : Listing} {stage output : List ℕ} {taken : ℕ} (f : FedSoFar s₀ piece stage₀ output₀ s stage output taken)
     (r : Listed) (after o2 : List ℕ) (room : 126 ≤ length output₀)
     (e : outcome r after o2 ≡ list_of s (take (length piece - taken) (drop taken piece)) stage output) where
   told : outcome r after o2 ≡ list_of s (drop taken piece) stage output
@@ -49,7 +48,7 @@ module _ {s₀ : Listing} {piece stage₀ output₀ : List ℕ} {s : Listing} {s
       let q : length (drop taken piece) ≡ length piece - taken = length-drop taken piece in
       omega (arith, f.within)
 
-  pub fed_more : length after ≡ length stage → length o2 ≡ length output → Fed-so-far s₀ piece stage₀ output₀ r.listing after o2 (taken + r.taken)
+  pub fed_more : length after ≡ length stage → length o2 ≡ length output → FedSoFar s₀ piece stage₀ output₀ r.listing after o2 (taken + r.taken)
   fed_more ls lo =
       let x : List ℕ = drop taken piece in
       let c = calls_more f.calls x [] output (sym (append-nil x)) (omega (arith, f.output_size)) in
@@ -65,15 +64,7 @@ module _ {s₀ : Listing} {piece stage₀ output₀ : List ℕ} {s : Listing} {s
         output_size = lo ∙ f.output_size;
       }
 
-module _ {s₀ : Listing} {piece stage₀ output₀ : List ℕ} {s : Listing} {stage output : List ℕ} {taken : ℕ} (f : Fed-so-far s₀ piece stage₀ output₀ s stage output taken) where
-  -- the ways out: it stops, or the piece is at its end
+module _ {s₀ : Listing} {piece stage₀ output₀ : List ℕ} {s : Listing} {stage output : List ℕ} {taken : ℕ} (f : FedSoFar s₀ piece stage₀ output₀ s stage output taken) where
+  -- the way out where it stops before the end of the piece
   pub feeds_stop : Feeds s₀ piece stage₀ (record { listing = s; more = false }) stage
   feeds_stop = record { left = drop taken piece; texts = f.texts; calls = f.calls; all = λ e. let z : ◌≡◌ {A = ℕ} 0 1 = cc in absurd (omega arith) }
-
-  pub feeds_all : length piece ≤ taken → Feeds s₀ piece stage₀ (record { listing = s; more = true }) stage
-  feeds_all h = record { left = drop taken piece; texts = f.texts; calls = f.calls; all = λ _. drop_of_length-le piece {i = taken} h }
-
--- the first bytes of a buffer, as the code takes them
-pub feeds_part : {s : Listing} (k : ℕ) (buffer stage : List ℕ) (r : Fed) (after : List ℕ) → Feeds s (take (k - 0) (drop 0 buffer)) stage r after
-    → Feeds s (take k buffer) stage r after
-feeds_part {s} k buffer stage r after f = let e : k - 0 ≡ k = omega arith in subst (λ (n : ℕ). Feeds s (take n buffer) stage r after) e f
