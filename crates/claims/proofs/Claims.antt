@@ -11,7 +11,7 @@ use lib.Dec.{leb, ltb}
 use borrow.Author.Tests.{le-leb, leb-true, eqb-true, lt-ltb}
 use Rattle.wire.specs.Bytes.{overlay, from_le, to_le}
 use Rattle.wire.specs.Header.{magic_of, version_of, type_of, flags_of, instance_of, epoch_of, sequence_of, length_of, header_bytes}
-use Rattle.wire.specs.Refusals.{pick, refusal, none, first, passes}
+use Rattle.wire.specs.Refusals.{pick, none, first, passes}
 use Rattle.outer.specs.Outer.{write, value_of, window_ok, credit_ok}
 use Rattle.record.specs.Types.{length_ok, type_at}
 use Rattle.record.specs.Record.{all_zero, header_checks, payload_checks}

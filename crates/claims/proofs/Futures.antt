@@ -30,7 +30,7 @@ use Rattle.claims.proofs.Outcomes.{true_not_false, part_low, ready_part, Pending
 use Rattle.claims.proofs.Stages.{push_staged}
 use Rattle.claims.proofs.Stream.{completed_ready, completed_empty}
 use Rattle.claims.proofs.Feeds.{Placed, bytes_in, matches, placed_next, bytes_next, payload_next}
-use Rattle.text.specs.Decimal.{number, Puts}
+use Rattle.text.specs.Decimal.{Puts}
 use Rattle.text.proofs.Digits.{number_length}
 use Rattle.text.specs.Lines.{line, ending}
 use Rattle.listing.specs.Reach.{limit}

@@ -19,7 +19,6 @@ use Rattle.claims.specs.Reading.{held_bytes, Ready}
 use Rattle.claims.specs.GuestCalls.{own, other, Call, Endpoint, Step, step, fresh}
 use Rattle.claims.specs.GuestHistory.{after, trace, history, OwnOrShorter, AllOwnOrShorter, Transcript, no_transcript, transcribe, data_bytes}
 use Rattle.claims.specs.GuestClaims.{IsReset, nothing_yet, since, Unfinished, in_header, in_payload, StreamExact}
-use Rattle.claims.proofs.Scans.{unfinished}
 use Rattle.claims.proofs.Outcomes.{true_not_false, Part, in_head, in_body, ready_part}
 use Rattle.claims.proofs.GuestInvariant.{Invariant, invariant_ready, open_unfailed, detached_unfailed, resetting_unfailed, going_unfailed, active_live, resetting_live}
 use Rattle.claims.proofs.GuestEffects.{Effect, effect_of}

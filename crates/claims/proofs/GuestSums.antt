@@ -7,7 +7,7 @@ use mathlib.Core.List.{List, [], ◌∷◌}
 use native.Mathlib.Omega.{arith}
 use lib.ListN.{length}
 use borrow.Author.Tests.{leb-true}
-use Rattle.wire.specs.Refusals.{pick, refusal, none, passes}
+use Rattle.wire.specs.Refusals.{pick, none, passes}
 use Rattle.wire.specs.declared.Refusal.{Refusal}
 use Rattle.record.specs.Record.{record_with}
 use Rattle.record.specs.declared.Record.{Record}

@@ -20,7 +20,7 @@ use Rattle.guest_core.specs.Calls as C
 use Rattle.guest_core.specs.Send as S
 use Rattle.guest_core.specs.declared.GuestState.{GuestState}
 use Rattle.guest_core.specs.declared.GuestSession.{GuestSession}
-use Rattle.claims.specs.GuestCalls.{Writing, attach, acknowledge, send, credit, Call, write, sent, Endpoint, Step, write_step, step, fresh}
+use Rattle.claims.specs.GuestCalls.{Writing, Call, write, sent, Endpoint, Step, write_step, step, fresh}
 use Rattle.claims.specs.GuestHistory.{after, trace, history, AllOwnOrShorter, no_transcript}
 use Rattle.claims.specs.Written.{Writes, guest_answered, with_record, count_records, AttachWrites, AcknowledgeWrites, SendWrites, CreditWrites, last_instance, last_epoch, records_sent}
 use Rattle.claims.proofs.Outcomes.{true_not_false}

@@ -16,7 +16,6 @@ use Rattle.wire.proofs.Rows.{picked, passed}
 use Rattle.record.specs.declared.types.RecordType.{RecordType}
 use Rattle.record.specs.declared.types.RecordType.TheVariants as Kind
 use Rattle.parser.specs.Push.{Push, push, held_in, head_with, payload_at, buffered_of, parser_of, finish, body_taken, push_body, head_taken, push_head, push_rows}
-use Rattle.session.specs.Checks.{identity}
 use Rattle.session.specs.declared.Identity.{Identity}
 use Rattle.host.specs.State.{is_begun, sound_host}
 use Rattle.host.specs.Checks.{record_rows}
@@ -28,10 +27,8 @@ use Rattle.host.specs.declared.calls.Closed.{Closed}
 use Rattle.host.specs.declared.accept.HostEvent.{HostEvent}
 use Rattle.host.specs.declared.accept.HostEvent.TheVariants as Event
 use Rattle.parser.specs.declared.Place.TheVariants.{Piece}
-use Rattle.claims.specs.Reading.{Ready}
 use Rattle.claims.specs.HostCalls.{HostCall, attach, receive, receive_short, send, disconnect, ask_state, ask_identity, ask_needed, got, HostPlace, sending, step, next, fresh_place, after}
 use Rattle.claims.specs.HostStream.{HostOnlyDataHands, HostLeaves, HostOutputsKept, HostStreamClaims}
-use Rattle.claims.proofs.Scans.{refused}
 use Rattle.claims.proofs.Outcomes.{true_not_false}
 use Rattle.parser.specs.declared.RecordParser.{RecordParser}
 use Rattle.parser.specs.declared.Place.{Place}

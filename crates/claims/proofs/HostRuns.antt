@@ -21,9 +21,9 @@ use Rattle.host.specs.declared.HostState.TheVariants as State
 use Rattle.host.specs.declared.HostSession.{HostSession}
 use Rattle.host.specs.declared.calls.Closed.{Closed}
 use Rattle.claims.specs.Reading.{Ready}
-use Rattle.claims.specs.HostCalls.{HostCall, wrote, got, HostReply, HostStep, placed, sending, receiving, step, next, fresh_place, compared, seen, replies}
+use Rattle.claims.specs.HostCalls.{HostCall, wrote, got, HostReply, HostStep, placed, sending, receiving, step, fresh_place, compared, seen, replies}
 use Rattle.claims.specs.HostCalls.{HostLike, attaches, receives, shorts, sends, disconnects, asks_state, asks_identity, asks_needed, HostLikes, nothing, also}
-use Rattle.claims.specs.HostCalls.{attach, receive, receive_short, send, disconnect}
+use Rattle.claims.specs.HostCalls.{attach, receive, receive_short, send}
 use Rattle.claims.proofs.Outcomes.{picked₂, true_not_false}
 use Rattle.claims.proofs.HostDoes.{Lands, receive_lands}
 use Rattle.claims.proofs.HostWrites.{between, written_is, sent_same, writes_land, attach_bytes, attach_size, attach_fixed}

@@ -11,7 +11,7 @@ use lib.Seq.{take_at}
 use lib.Dec.{eqb, lit≤}
 use borrow.Author.Tests.{le-ltb, eqb-true}
 use Rattle.wire.specs.Bytes.{from_le, Octets}
-use Rattle.wire.specs.Refusals.{refusal, none, first, passes}
+use Rattle.wire.specs.Refusals.{none, first, passes}
 use Rattle.wire.specs.Header.{magic, magic_of, version_of, type_of, flags_of, instance_of, epoch_of, sequence_of, length_of, header_bytes}
 use Rattle.outer.specs.Outer.{header_of, outer_ok, decode_outer_header}
 use Rattle.outer.specs.Outer as Outer

@@ -24,7 +24,7 @@ use Rattle.claims.specs.Reading.{held_bytes, Ready, encodings}
 use Rattle.claims.specs.GuestCalls.{own, other, Call, Endpoint, endpoint, Step, step, fresh}
 use Rattle.claims.specs.GuestHistory.{trace, history, OwnOrShorter, AllOwnOrShorter, Transcript, no_transcript, transcribe}
 use Rattle.claims.specs.GuestClaims.{Unfinished}
-use Rattle.claims.proofs.Scans.{unfinished, whole, scan_short}
+use Rattle.claims.proofs.Scans.{whole, scan_short}
 use Rattle.claims.proofs.Outcomes.{true_not_false}
 use Rattle.claims.proofs.Readings.{within, Reads, ends_within, reads_on}
 use Rattle.claims.proofs.Pushed.{waits_reads, whole_reads}

@@ -18,7 +18,7 @@ use Rattle.text.specs.Decimal.{Puts}
 use Rattle.text.proofs.Puts.{puts_length, puts_then, put_first}
 use Rattle.text.specs.Lines.{line_room}
 use Rattle.listing.specs.Reach.{limit}
-use Rattle.listing.specs.Steps.{read_of, sound_listing, listed, Outcome, step_of, lines, list_rows, readable, list_of}
+use Rattle.listing.specs.Steps.{read_of, sound_listing, Outcome, step_of, lines, list_rows, readable, list_of}
 use Rattle.listing.specs.Calls.{Calls, stop, call, written}
 use Rattle.listing.specs.declared.Listing.{Listing}
 use Rattle.listing.proofs.Cases.{facts, Stepped, stepped}

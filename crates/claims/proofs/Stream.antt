@@ -9,7 +9,7 @@ use lib.ListN.{length, take, length-append}
 use lib.Seq.{take_all}
 use borrow.Author.Tests.{le-leb}
 use Rattle.wire.specs.Bytes.{overlay, Octets}
-use Rattle.wire.specs.Refusals.{pick, refusal, none, first, passes}
+use Rattle.wire.specs.Refusals.{pick, none, first, passes}
 use Rattle.wire.specs.Header.{type_of, length_of}
 use Rattle.outer.specs.Outer.{outcome, write}
 use Rattle.wire.specs.declared.Refusal.{Refusal}

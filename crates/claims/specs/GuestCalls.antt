@@ -1,6 +1,6 @@
 -- A guest's calls as its caller makes them, and what the caller sees of each. A call runs the rule that the contract of the operation
 -- states, so nothing is said here that the code does not do.
-use Rattle.std.specs.Prelude.{ℕ, ◌-◌, List, [], length, take, drop}
+use Rattle.std.specs.Prelude.{ℕ, ◌-◌, List, [], take, drop}
 use Rattle.wire.specs.Bytes.{Octets}
 use Rattle.wire.specs.declared.Refusal.{Refusal}
 use Rattle.parser.specs.Push.{payload_at}

@@ -1,3 +1,2 @@
 // No code: claims over the rules.
 #![tactic(auto)]
-
