@@ -1,10 +1,10 @@
 -- The loop over a piece: the calls so far were lent its first bytes, and one more call is lent the rest. Assumes nothing.
 use Prim.Native.Nat.{ℕ, ◌+◌, ◌-◌, ◌≤◌}
 use mathlib.Core.Path.{◌≡◌, refl, sym, ap, subst, ◌∙◌}
-use mathlib.Core.Bool.{false}
+use mathlib.Core.Bool.{true, false}
 use mathlib.Core.List.{List, [], ◌∷◌, ◌++◌, append-nil}
 use native.Mathlib.Omega.{arith}
-use lib.ListN.{length, take, drop, length-drop}
+use lib.ListN.{length, take, drop, length-drop, drop_of_length-le}
 use lib.Seq.{drop-drop}
 use Rattle.wire.proofs.PartLaws.{part_end}
 use Rattle.text.specs.Lines.{line_room}
@@ -14,6 +14,7 @@ use Rattle.listing.specs.declared.Listing.{Listing}
 use Rattle.listing.specs.declared.Listed.{Listed}
 use Rattle.listing.proofs.Bounds.{list_within}
 use Rattle.nvxs_list.specs.Feeding.{Feeds}
+use Rattle.nvxs_list.specs.declared.Fed.{Fed}
 
 -- one more call
 calls_more : {s t : Listing} {stage input left after : List ℕ} {texts : List (List ℕ)} → Calls s stage input left t after texts → (piece rest output : List ℕ)
@@ -65,6 +66,14 @@ module _ {s₀ : Listing} {piece stage₀ output₀ : List ℕ} {s : Listing} {s
       }
 
 module _ {s₀ : Listing} {piece stage₀ output₀ : List ℕ} {s : Listing} {stage output : List ℕ} {taken : ℕ} (f : FedSoFar s₀ piece stage₀ output₀ s stage output taken) where
-  -- the way out where it stops before the end of the piece
+  -- the ways out: it stops, or the piece is at its end
   pub feeds_stop : Feeds s₀ piece stage₀ (record { listing = s; more = false }) stage
   feeds_stop = record { left = drop taken piece; texts = f.texts; calls = f.calls; all = λ e. let z : ◌≡◌ {A = ℕ} 0 1 = cc in absurd (omega arith) }
+
+  pub feeds_all : length piece ≤ taken → Feeds s₀ piece stage₀ (record { listing = s; more = true }) stage
+  feeds_all h = record { left = drop taken piece; texts = f.texts; calls = f.calls; all = λ _. drop_of_length-le piece {i = taken} h }
+
+-- the first bytes of a buffer, as the code takes them
+pub feeds_part : {s : Listing} (k : ℕ) (buffer stage : List ℕ) (r : Fed) (after : List ℕ) → Feeds s (take (k - 0) (drop 0 buffer)) stage r after
+    → Feeds s (take k buffer) stage r after
+feeds_part {s} k buffer stage r after f = let e : k - 0 ≡ k = omega arith in subst (λ (n : ℕ). Feeds s (take n buffer) stage r after) e f
