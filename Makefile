@@ -1,4 +1,4 @@
-# make test: every check of the repository; its last line is that of rt ci.
+# make test: every check of the repository; its last line is 'N passed, M failed'.
 # make run:  prove and build the link listing, and list a sample; CAPTURE=file lists any file.
 # make bench: time the port against the Rust reference (docs/SPEED.md).
 # make rooms: draw docs/rooms.svg anew from crates.txt.
@@ -7,13 +7,6 @@
 MAKEFLAGS += --no-print-directory
 
 test: rt-present
-	@tests/kit
-	@rt fmt --check
-	@echo 'fmt: every file is in the layout'
-	@docs/draw-rooms | cmp - docs/rooms.svg || { echo 'rooms: docs/rooms.svg is not that of crates.txt: run make rooms' >&2; exit 1; }
-	@echo 'rooms: the drawing is that of crates.txt'
-	@tests/documents
-	@tests/operations
 	@tests/ci
 
 rooms:
@@ -23,9 +16,8 @@ CAPTURE ?= samples/reattachment.nvxs
 
 run: rt-present
 	@echo 'proving and building nvxs_list: some minutes the first time' >&2
-	@mkdir -p target
-	@tests/in_memory rt check nvxs_list > target/run.log 2>&1 || { tail -n 20 target/run.log >&2; exit 1; }
-	@target/bin/nvxs_list < $(CAPTURE)
+	@tests/program nvxs_list
+	@crates/nvxs_list/out/nvxs_list < $(CAPTURE)
 
 rt-present:
 	@command -v rt >/dev/null || { echo 'rt, the command of the Rattle kit, is not on the PATH' >&2; exit 1; }
@@ -33,14 +25,16 @@ rt-present:
 # The differential test compares with the Rust, whose source stands beside the repository.
 REFERENCE := ../shared/docs/src
 
+# The programs are those that `rt ci` has built.
 differential-where-present:
 ifeq ($(wildcard tests/differential/.),)
 	@echo 'differential: NOT RUN: there is no tests/differential'
 else ifeq ($(wildcard $(REFERENCE)/.),)
 	@echo 'differential: NOT RUN: there is no $(REFERENCE)'
 else
-	@$(MAKE) differential CALLS=200000 SEED=1
-	@$(MAKE) listing-differential CAPTURES=10000 LISTING_SEED=1
+	@$(MAKE) differential CALLS=200000 SEED=1 PROGRAM=crates/replay_run/out/replay_run
+	@$(MAKE) listing-differential CAPTURES=10000 LISTING_SEED=1 PROGRAM=crates/nvxs_list/out/nvxs_list
+	@$(MAKE) slips
 endif
 
 # Gives the targets differential, slips and replay-list.

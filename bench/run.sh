@@ -3,7 +3,7 @@
 # usage: run.sh     (from the repository's root)
 set -eu
 here=$(cd "$(dirname "$0")" && pwd)
-out=target/bench
+out=out/bench
 "$here/build.sh" "$out"
 
 # One dump for each call of a loop, in the order of the calls; its `summary` is the count.

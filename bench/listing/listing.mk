@@ -2,7 +2,7 @@
 .PHONY: bench-listing
 
 bench-listing:
-	@mkdir -p target/listing
-	@sh tests/listing/build.sh target/listing/oracle
-	@rt check nvxs_list > target/listing/check.log || { tail -n 20 target/listing/check.log; exit 1; }
+	@mkdir -p out/listing
+	@sh tests/listing/build.sh out/listing/oracle
+	@tests/program nvxs_list
 	@python3 bench/listing/run.py 256

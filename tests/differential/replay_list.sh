@@ -5,11 +5,11 @@
 set -eu
 here=$(cd "$(dirname "$0")" && pwd)
 layers=$1
-built=target/differential/oracle
+built=out/differential/oracle
 "$here/build.sh" "$built"
-"$built/oracle" fixed "$layers" > target/differential/stdin
-"$built/oracle" run < target/differential/stdin > target/differential/stdout
-mv target/differential/stdin crates/replay_run/stdin
-mv target/differential/stdout crates/replay_run/stdout
+"$built/oracle" fixed "$layers" > out/differential/stdin
+"$built/oracle" run < out/differential/stdin > out/differential/stdout
+mv out/differential/stdin crates/replay_run/stdin
+mv out/differential/stdout crates/replay_run/stdout
 calls=$("$built/oracle" stats < crates/replay_run/stdin | awk '{ calls += $NF } END { print calls }')
 echo "replay-list: $calls calls, layers: $layers"

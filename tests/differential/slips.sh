@@ -7,8 +7,8 @@ here=$(cd "$(dirname "$0")" && pwd)
 calls=${1:-30000}
 seed=${2:-1}
 all="outer record parser guest host"
-built=target/differential/oracle
-work=target/differential/slip
+built=out/differential/oracle
+work=out/differential/slip
 "$here/build.sh" "$built"
 
 # With no slip there is no difference.

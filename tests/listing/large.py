@@ -5,7 +5,7 @@ import hashlib
 import subprocess
 import sys
 
-ORACLE = "target/listing/oracle/oracle"
+ORACLE = "out/listing/oracle/oracle"
 size, most = sys.argv[1], int(sys.argv[2])
 
 
@@ -33,7 +33,7 @@ def listed(program):
     return digest.hexdigest(), last.splitlines()[-1].decode(), peak
 
 
-port = listed(["target/bin/nvxs_list"])
+port = listed(["crates/nvxs_list/out/nvxs_list"])
 rust = listed([ORACLE, "list"])
 print(f"nvxs_list: {size} bytes through a pipe, last line '{port[1]}', peak memory {port[2]} KiB")
 if port[:2] != rust[:2]:
