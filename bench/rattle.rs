@@ -1,4 +1,4 @@
-//! The loops of the crates bench_core and bench_echo, as their static libraries export them.
+//! The loops of the crates bench_core and bench_echo, as the static libraries over them export them.
 
 unsafe extern "C" {
     fn nvxs_receive(stream: *const u8, n: usize, piece: usize, whole: bool, stage: *mut u8, m: usize) -> u64;

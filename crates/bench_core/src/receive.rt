@@ -52,8 +52,7 @@ fn turn(run: Run, stream: &[u8], piece: usize, whole: bool, stage: &mut [u8]) ->
 
 // Receives the stream, cut into pieces of so many bytes, and gives the sums over the payloads; 0
 // where a piece is refused.
-#[unsafe(no_mangle)]
-pub extern "C" fn nvxs_receive(stream: &[u8], piece: usize, whole: bool, stage: &mut [u8]) -> u64
+pub fn nvxs_receive(stream: &[u8], piece: usize, whole: bool, stage: &mut [u8]) -> u64
     ensures { length stage.new ≡ length stage.old }
 {
     let mut run = Run {

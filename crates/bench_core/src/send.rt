@@ -29,8 +29,7 @@ fn turn(run: Run, data: &[u8], size: usize, output: &mut [u8]) -> Run {
 
 // Sends the data in records of so many bytes, one after another in the output, and gives the
 // position after the last; 0 where one is refused.
-#[unsafe(no_mangle)]
-pub extern "C" fn nvxs_send(data: &[u8], size: usize, output: &mut [u8]) -> usize
+pub fn nvxs_send(data: &[u8], size: usize, output: &mut [u8]) -> usize
     ensures { length output.new ≡ length output.old }
 {
     let mut run = Run {

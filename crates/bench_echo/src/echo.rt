@@ -156,8 +156,7 @@ fn ready(stage: &mut [u8]) -> Link {
 }
 
 // Sends a message there and back so many times, and gives the sums over the echoes.
-#[unsafe(no_mangle)]
-pub extern "C" fn nvxs_echo(
+pub fn nvxs_echo(
     message: &[u8],
     times: u32,
     whole: bool,
