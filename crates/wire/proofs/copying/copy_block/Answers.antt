@@ -8,6 +8,7 @@ use Rattle.wire.proofs.copying.copy_block.Goals as goal
 
 zeros : List ℕ
 zeros = replicate 65536 0
+
 zeros-length : length zeros ≡ 65536
 unfolding zeros
 zeros-length = length-replicate {A = ℕ} 65536 0
