@@ -1,5 +1,5 @@
 -- What a host's asks answer, where its calls succeed, and which change nothing. After every call the session's state and identity are what
--- the folds give (`known-after`), and a call that changes nothing leaves the same session and stage. Assumes nothing.
+-- the folds give, and a call that changes nothing leaves the same session and stage. Assumes nothing.
 use Prim.Native.Nat.{ℕ}
 use mathlib.Core.Path.{◌≡◌, refl, sym, ap, subst, ◌∙◌}
 use mathlib.Core.Bool.{true, false}

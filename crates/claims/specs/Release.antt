@@ -200,7 +200,7 @@ pub record HandsOut (payload piece more : List ℕ) (a : Answer) : Type 0 where
   pub taken : consumed_of a + length more ≡ length piece
 
 -- an answer refuses nothing, reports nothing and took all of the piece
-pub record Waits (piece : List ℕ) (a : Answer) : Type 0 where
+pub record GuestWaits (piece : List ℕ) (a : Answer) : Type 0 where
   pub refusal : refusal_of a ≡ none
   pub event : event_of a ≡ Event.Nothing
   pub taken : consumed_of a ≡ length piece
@@ -227,7 +227,7 @@ UnfinishedAwaited =
     (s : List ℕ) → max_payload ≤ length s → (cs : List Call) → AllOwnOrShorter cs
     → (q : GuestState) → is_open q ≡ true → Tells (after (fresh s) cs) q
     → (piece part : List ℕ) → Unfinished part → Comes (transcript_of s cs) piece part
-    → (o : Octets piece) → Waits piece (step (after (fresh s) cs) (receive piece o own)).answer
+    → (o : Octets piece) → GuestWaits piece (step (after (fresh s) cs) (receive piece o own)).answer
 
 -- the first bytes of a record that the encoder takes, without the last one, are those of an unfinished record
 abbrev pub FrontsUnfinished : Type 0
