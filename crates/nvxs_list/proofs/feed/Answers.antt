@@ -3,18 +3,14 @@ use Rattle.std.proofs.Common.{arith, rules}
 use Rattle.nvxs_list.proofs.Feeding.{fed_first, fed_within, fed_more, feeds_stop}
 use Rattle.nvxs_list.proofs.feed.Goals as goal
 
--- src/main.rt:48:5
 pub loop-taken-init : goal.loop-taken-init
 loop-taken-init c = fed_first _ _ _ _
 
--- src/main.rt:52:9
 pub overflow_add-taken : goal.overflow_add-taken
 overflow_add-taken c = omega (arith, fed_within c.loop-taken.invariant c.list-r.result _ _ c.requires c.list-r.ensures)
 
--- src/main.rt:55:13
 pub returns-then-not-goes_on : goal.returns-then-not-goes_on
 returns-then-not-goes_on c = feeds_stop (fed_more c.loop-taken.invariant c.list-r.result _ _ c.requires c.list-r.ensures (search rules) (search rules))
 
--- src/main.rt:48:5
 pub loop-taken-preserved : goal.loop-taken-preserved
 loop-taken-preserved c = fed_more c.loop-taken.invariant c.list-r.result _ _ c.requires c.list-r.ensures (search rules) (search rules)

@@ -1,16 +1,13 @@
-use Rattle.std.proofs.Common.{rules, ◌<◌, length}
+use Rattle.std.proofs.Common.{rules, ◌<◌, length, arith}
 use Rattle.session.specs.Checks.{same}
-use Rattle.std.proofs.Common.{arith}
 use mathlib.Core.Path.{refl, ◌∙◌}
 use Rattle.session.proofs.Same.{same_more, same_never}
 use Rattle.session.proofs.same_instance.Goals as goal
 use Rattle.session.proofs.same_instance.Goals.{then-a-i, else-a-i}
 
--- src/lib.rt:44:5
 pub loop-i-init : goal.loop-i-init
 loop-i-init c = (search rules, (unfold same in refl), search rules, search rules)
 
--- src/lib.rt:44:5
 pub loop-i-preserved : goal.loop-i-preserved
 loop-i-preserved c =
     let l = c.loop-i in

@@ -4,7 +4,6 @@ use Rattle.text.proofs.Puts.{digits_put}
 use mathlib.Core.Path.{sym}
 use Rattle.text.proofs.put.Goals as goal
 
--- src/lib.rt:15:1
 pub returns : goal.returns
 returns c =
     let d = c.decimal-k in

@@ -1,3 +1,5 @@
+-- `guest::fast::receive` meets its contract. It has one way out, to which four lead: the payload in progress stays unfinished, a step was taken, a step was not, or DATA may not flow. Each is a law of proofs/Flowing.
+-- Assumes nothing.
 use Rattle.std.proofs.Common.{arith}
 use mathlib.Core.Path.{refl, ◌∙◌}
 use Rattle.parser.proofs.Cases.{sound_count}
@@ -5,18 +7,15 @@ use Rattle.guest.proofs.Flowing.{flow_told, flow_sound, stays_low, open_way, ste
 use Rattle.guest.proofs.fast.receive.Goals as goal
 use Rattle.guest.proofs.fast.receive.Goals.{then-flows+then-stays_open, then-flows+else-stays_open+then-did, then-flows+else-stays_open+else-did, else-flows}
 
--- src/fast.rt:278:34
 pub overflow_add-parser : goal.overflow_add-parser
 overflow_add-parser c =
     let f = flow_told _ _ _ c.flows.ensures c.if-flows.true in
     let low = stays_low _ _ _ (flow_sound _ _ f) c.stays_open.ensures c.if-stays_open.true in
     omega arith
 
--- src/fast.rt:283:17
 pub with_front-header-requires : goal.with_front-header-requires
 with_front-header-requires c = sound_count _ (flow_sound _ _ (flow_told _ _ _ c.flows.ensures c.if-flows.true))
 
--- src/fast.rt:268:1
 pub returns : goal.returns
 returns c =
     way_out _ _ _ _ _ _ _ _ c.apart-session.ensures c.with_session.ensures

@@ -1,10 +1,9 @@
+-- `guest_core::GuestSession::is_sound` meets its contract. Each way it returns is a case of its rule: `sounding` of proofs/Soundness. Assumes nothing.
 use Rattle.guest_core.proofs.Soundness.{sounding}
 use Rattle.guest_core.proofs.GuestSession.is_sound.Goals as goal
 
--- src/lib.rt:116:13
 pub returns-then-not-is_sound : goal.returns-then-not-is_sound
 returns-then-not-is_sound c = search sounding
 
--- src/lib.rt:112:5
 pub returns : goal.returns
 returns c = search sounding

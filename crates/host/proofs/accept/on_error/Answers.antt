@@ -1,6 +1,6 @@
+-- `host::accept::on_error` meets its contract. It is the clause of `effect` for ERROR, by `error_is`. Assumes nothing.
 use Rattle.host.proofs.Receiving.{error_is}
 use Rattle.host.proofs.accept.on_error.Goals as goal
 
--- src/accept.rt:157:1
 pub returns : goal.returns
 returns c = search error_is

@@ -1,19 +1,17 @@
+-- `host::calls::attach` meets its contract. Each return is a case of the rule `attach`; the length of the capability comes from its type. Assumes nothing.
 use Rattle.std.proofs.Common.{◌≡◌, length}
 use borrow.Author.Rules.{length_unmapped}
 use Rattle.host.proofs.Calling.{told_of, attaching, attach_done}
 use Rattle.host.proofs.calls.attach.Goals as goal
 
--- src/calls.rt:89:9
 pub returns-then-refusal-ne0 : goal.returns-then-refusal-ne0
 returns-then-refusal-ne0 c = search attaching
 
--- src/calls.rt:93:9
 pub returns-then-written-ne0 : goal.returns-then-written-ne0
 returns-then-written-ne0 c =
     let long : length c.args.capability ≡ 32 = search (length_unmapped, c.well_formed.1.0) in
     search (attaching, long)
 
--- src/calls.rt:83:1
 pub returns : goal.returns
 returns c =
     let long : length c.args.capability ≡ 32 = search (length_unmapped, c.well_formed.1.0) in

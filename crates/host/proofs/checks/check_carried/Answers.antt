@@ -1,10 +1,9 @@
+-- `host::checks::check_carried` meets its contract. The laws `carrying` have a case for an identity and one for none. Assumes nothing.
 use Rattle.host.proofs.Checking.{carrying}
 use Rattle.host.proofs.checks.check_carried.Goals as goal
 
--- src/checks.rt:79:9
 pub returns-then-is_identity : goal.returns-then-is_identity
 returns-then-is_identity c = search carrying
 
--- src/checks.rt:74:1
 pub returns : goal.returns
 returns c = search carrying

@@ -1,15 +1,12 @@
-use Rattle.std.proofs.Common.{rules, ◌<◌, ◌≤◌, length}
-use Rattle.std.proofs.Common.{arith}
+use Rattle.std.proofs.Common.{rules, ◌<◌, ◌≤◌, length, arith}
 use mathlib.Core.Path.{◌∙◌}
 use Rattle.listing.proofs.Settled.{scan_start, scan_zero, scan_other}
 use Rattle.listing.proofs.settle.zero_from.Goals as goal
 use Rattle.listing.proofs.settle.zero_from.Goals.{then-header-i-ne0, else-header-i-ne0}
 
--- src/settle.rt:54:5
 pub loop-i-init : goal.loop-i-init
 loop-i-init c = (search rules, scan_start _ c.args.from, search rules)
 
--- src/settle.rt:54:5
 pub loop-i-preserved : goal.loop-i-preserved
 loop-i-preserved c =
     let l = c.loop-i in

@@ -1,11 +1,10 @@
+-- `parser::push::payload_step` meets its contract. The laws `body_waits` and `body_ends` have the two returns: payload bytes to come, and the payload whole. Assumes nothing.
 use Rattle.parser.proofs.Cases.{body_waits, body_ends}
 use Rattle.parser.proofs.push.payload_step.Goals as goal
 
--- src/push.rt:154:9
 pub returns-then-come-size : goal.returns-then-come-size
 returns-then-come-size c = search body_waits
 
--- src/push.rt:137:1
 pub returns : goal.returns
 returns c =
     let p = c.requires in

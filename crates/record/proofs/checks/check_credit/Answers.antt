@@ -1,10 +1,9 @@
+-- `record::checks::check_credit` meets its contract. The laws `checking` have a case for each return: a credit within its limits, and 9. Assumes nothing.
 use Rattle.record.proofs.Cases.{checking}
 use Rattle.record.proofs.checks.check_credit.Goals as goal
 
--- src/checks.rt:84:9
 pub returns-then-credit_ok : goal.returns-then-credit_ok
 returns-then-credit_ok c = search checking
 
--- src/checks.rt:80:1
 pub returns : goal.returns
 returns c = search checking

@@ -1,3 +1,4 @@
+-- `record::checks::check_error` meets its contract. A value that has no code gives 7, by `error_stops`; one that has a code passes, by `error_passes`. Assumes nothing.
 use Rattle.record.proofs.Cases.{error_stops, error_passes}
 use Rattle.record.proofs.checks.check_error.Goals as goal
 

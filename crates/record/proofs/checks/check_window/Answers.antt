@@ -1,10 +1,9 @@
+-- `record::checks::check_window` meets its contract. The laws `checking` have a case for each return: a window within its limits, and 8. Assumes nothing.
 use Rattle.record.proofs.Cases.{checking}
 use Rattle.record.proofs.checks.check_window.Goals as goal
 
--- src/checks.rt:74:9
 pub returns-then-window_ok : goal.returns-then-window_ok
 returns-then-window_ok c = search checking
 
--- src/checks.rt:70:1
 pub returns : goal.returns
 returns c = search checking

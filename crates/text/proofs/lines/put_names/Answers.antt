@@ -3,11 +3,9 @@ use Rattle.text.specs.Lines.{names}
 use Rattle.text.proofs.Texts.{putting, names_placed}
 use Rattle.text.proofs.lines.put_names.Goals as goal
 
--- src/lines.rt:58:9
 pub returns-then-output-lt-LINE : goal.returns-then-output-lt-LINE
 returns-then-output-lt-LINE c = search putting
 
--- src/lines.rt:54:1
 pub returns : goal.returns
 unfolding names
 returns c = names_placed _ c.if-output-lt-LINE.false c.copy_at.ensures

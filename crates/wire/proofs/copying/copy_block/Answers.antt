@@ -1,6 +1,6 @@
-use Rattle.std.proofs.Common.{◌≡◌, length, take, ℕ, List}
+-- `wire::copying::copy_block` meets its contract: the first bytes of the block are the source when they go to the target (`overlay_block`). Assumes nothing.
+use Rattle.std.proofs.Common.{◌≡◌, length, take, ℕ, List, arith}
 use Rattle.wire.specs.Bytes.{overlay}
-use Rattle.std.proofs.Common.{arith}
 use mathlib.Core.Path.{ap, ◌∙◌}
 use lib.ListN.{replicate, length-replicate}
 use Rattle.wire.proofs.Overlays.{overlay_block}
@@ -13,7 +13,6 @@ zeros-length : length zeros ≡ 65536
 unfolding zeros
 zeros-length = length-replicate {A = ℕ} 65536 0
 
--- src/copying.rt:30:1
 pub returns : goal.returns
 unfolding zeros
 returns c =

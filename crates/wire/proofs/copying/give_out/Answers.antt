@@ -1,18 +1,15 @@
-use Rattle.std.proofs.Common.{◌≡◌, length, take}
-use Rattle.std.proofs.Common.{arith}
+use Rattle.std.proofs.Common.{◌≡◌, length, take, arith}
 use mathlib.Core.Path.{◌∙◌}
 use lib.ListN.{length-set, length-take}
 use Rattle.wire.proofs.Overlays.{paste_part, paste_whole}
 use Rattle.wire.proofs.copying.give_out.Goals as goal
 
--- src/copying.rt:23:5
 pub loop-i-preserved : goal.loop-i-preserved
 loop-i-preserved c =
     let l = c.loop-i in
     let a = c.args in
     (omega arith, rw l.invariant.1 (paste_part a.target.now a.at a.count a.block.now l.i (omega arith) (omega arith) (omega arith)), simp length-set l.invariant.2)
 
--- src/copying.rt:18:1
 pub returns : goal.returns
 returns c =
     let l = c.loop-i in

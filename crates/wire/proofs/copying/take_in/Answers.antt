@@ -1,10 +1,8 @@
-use Rattle.std.proofs.Common.{◌≡◌, length}
-use Rattle.std.proofs.Common.{arith}
+use Rattle.std.proofs.Common.{◌≡◌, length, arith}
 use mathlib.Core.Path.{◌∙◌}
 use Rattle.wire.proofs.Overlays.{paste_whole}
 use Rattle.wire.proofs.copying.take_in.Goals as goal
 
--- src/copying.rt:6:1
 pub returns : goal.returns
 returns c =
     let l = c.loop-i in

@@ -3,7 +3,6 @@ use lib.ListN.{length-set}
 use Rattle.wire.proofs.Reading.{one_more}
 use Rattle.wire.proofs.fields.eight.Goals as goal
 
--- src/fields.rt:52:5
 pub loop-i-preserved : goal.loop-i-preserved
 loop-i-preserved c =
     let l = c.loop-i in

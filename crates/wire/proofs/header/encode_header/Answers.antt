@@ -1,3 +1,4 @@
+-- `wire::header::encode_header` meets its contract: the parts of the header are copied one behind the other (`header_copied`). Assumes nothing.
 use Rattle.std.proofs.Common.{rules}
 use Rattle.wire.proofs.Headers.{header_copied}
 use Rattle.wire.proofs.header.encode_header.Goals as goal
