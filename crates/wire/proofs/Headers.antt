@@ -1,56 +1,70 @@
 -- A header's 44 bytes: as the code builds them, and that they are the encoding of the fields read from them. Assumes nothing.
-use Prim.Native.Nat.{ℕ, ◌+◌, ◌≤◌}
-use mathlib.Core.Path.{◌≡◌, refl, sym, ap, ap₂, subst, ◌∙◌}
+use Prim.Native.Nat.{ℕ, ◌+◌, ◌-◌, ◌≤◌}
+use mathlib.Core.Path.{◌≡◌, refl, sym, ap, subst, ◌∙◌}
 use mathlib.Core.List.{List, [], ◌∷◌, ◌++◌, append_assoc, append-nil}
 use native.Mathlib.Omega.{arith}
-use lib.ListN.{length, length-append, drop_of_length-le}
+use lib.ListN.{length, set, replicate, take, drop, length-append}
+use lib.Seq.{take_at, drop_at}
+use Rattle.std.proofs.lemmas.List.{drop-replicate}
 use lib.Dec.{lit<}
-use Rattle.wire.specs.Bytes.{from_le, to_le, bytes_at, overlay, copied, Octets, end, octet}
+use Rattle.wire.specs.Bytes.{from_le, to_le, bytes_at, Octets, end, octet}
 use Rattle.wire.specs.Header.{magic, magic_of, version_of, type_of, flags_of, instance_of, epoch_of, sequence_of, length_of, header_bytes}
-use Rattle.wire.proofs.NumberLaws.{at_whole, at_octets, length_at, length_to, to_from}
-use Rattle.wire.proofs.Overlays.{length_overlay, overlay_next, copied_fits}
+use Rattle.std.specs.Int.{bytes_low_first}
+use Rattle.wire.proofs.NumberLaws.{at_whole, at_octets, length_at, length_to, to_from, written}
+use borrow.Rule.Slice.PartMut.{put_mid}
 
--- one more part copied behind the parts that stand there
-part_copied : (d a b h g : List ℕ) (at : ℕ) → length a ≡ at → at + length b ≤ length d → h ≡ overlay d 0 a → g ≡ copied h at b → g ≡ overlay d 0 (a ++ b)
-part_copied d a b h g at la room eh eg =
-    let lh : length h ≡ length d = ap length eh ∙ length_overlay d 0 a (omega (arith, la, room)) in
-    eg
-    ∙ copied_fits h at b (omega (arith, lh, room))
-    ∙ ap₂ (λ (x : List ℕ) (k : ℕ). overlay x k b) eh (omega (arith, la))
-    ∙ overlay_next d 0 a b (simp length-append (omega (arith, la, room)))
+-- one more part written behind the parts that stand there, zeros behind it
+part_written : (a b : List ℕ) (at k m : ℕ) → length a ≡ at → length b ≡ k → put_mid at k (a ++ replicate (k + m) 0) b ≡ (a ++ b) ++ replicate m 0
+part_written a b at k m la lb =
+    let t : take at (a ++ replicate (k + m) 0) ≡ a = take_at a (replicate (k + m) 0) at la in
+    let d : drop at (a ++ replicate (k + m) 0) ≡ replicate (k + m) 0 = drop_at a (replicate (k + m) 0) at la in
+    let n : k + m - k ≡ m = omega arith in
+    rw (t, d, drop-replicate {X = ℕ} k (k + m) 0, n) (sym (append_assoc a b (replicate m 0)))
 
--- a list laid over one of its own length
-overlay_whole : (d s : List ℕ) → length s ≡ length d → overlay d 0 s ≡ s
-unfolding overlay
-overlay_whole d s e = ap (λ (x : List ℕ). s ++ x) (drop_of_length-le d {i = 0 + length s} (omega (arith, e))) ∙ append-nil s
+-- the parts of a header written one behind the other, and the room that is left behind the epoch and behind the sequence
+abbrev begun : ℕ → List ℕ
+begun t = magic ++ (1 ∷ 0 ∷ t ∷ 0 ∷ [])
 
--- the parts of a header copied one behind the other
-pub header_copied : (t : ℕ) (d i v e s n h₀ h₁ h₂ h₃ h₄ h₅ h₆ : List ℕ) (epoch seq size : ℕ) → length d ≡ 44 → length i ≡ 16
-    → v ≡ to_le 2 1 → e ≡ to_le 8 epoch → s ≡ to_le 8 seq → n ≡ to_le 4 size
-    → h₀ ≡ copied d 0 magic → h₁ ≡ copied h₀ 4 v → h₂ ≡ copied h₁ 6 (t ∷ 0 ∷ []) → h₃ ≡ copied h₂ 8 i → h₄ ≡ copied h₃ 24 e → h₅ ≡ copied h₄ 32 s → h₆ ≡ copied h₅ 40 n
-    → h₆ ≡ header_bytes t i epoch seq size
-unfolding header_bytes
-header_copied t d i v e s n h₀ h₁ h₂ h₃ h₄ h₅ h₆ epoch seq size ld li ev ee es en c₀ c₁ c₂ c₃ c₄ c₅ c₆ =
-    let lv : length v ≡ 2 = ap length ev ∙ length_to 2 1 in
-    let le : length e ≡ 8 = ap length ee ∙ length_to 8 epoch in
-    let ls : length s ≡ 8 = ap length es ∙ length_to 8 seq in
-    let ln : length n ≡ 4 = ap length en ∙ length_to 4 size in
-    let kind : List ℕ = t ∷ 0 ∷ [] in
-    let p₀ : h₀ ≡ overlay d 0 magic = c₀ ∙ copied_fits d 0 magic (omega (arith, ld)) in
-    let l₁ : length (magic ++ v) ≡ 6 = simp length-append (omega (arith, lv)) in
-    let p₁ = part_copied d magic v h₀ h₁ 4 refl (omega (arith, ld, lv)) p₀ c₁ in
-    let l₂ : length ((magic ++ v) ++ kind) ≡ 8 = length-append (magic ++ v) kind ∙ ap (λ (k : ℕ). k + 2) l₁ in
-    let p₂ = part_copied d (magic ++ v) kind h₁ h₂ 6 l₁ (omega (arith, ld)) p₁ c₂ in
-    let l₃ : length (((magic ++ v) ++ kind) ++ i) ≡ 24 = length-append ((magic ++ v) ++ kind) i ∙ ap₂ (λ (k m : ℕ). k + m) l₂ li in
-    let p₃ = part_copied d ((magic ++ v) ++ kind) i h₂ h₃ 8 l₂ (omega (arith, ld, li)) p₂ c₃ in
-    let l₄ : length ((((magic ++ v) ++ kind) ++ i) ++ e) ≡ 32 = length-append (((magic ++ v) ++ kind) ++ i) e ∙ ap₂ (λ (k m : ℕ). k + m) l₃ le in
-    let p₄ = part_copied d (((magic ++ v) ++ kind) ++ i) e h₃ h₄ 24 l₃ (omega (arith, ld, le)) p₃ c₄ in
-    let l₅ : length (((((magic ++ v) ++ kind) ++ i) ++ e) ++ s) ≡ 40 = length-append ((((magic ++ v) ++ kind) ++ i) ++ e) s ∙ ap₂ (λ (k m : ℕ). k + m) l₄ ls in
-    let p₅ = part_copied d ((((magic ++ v) ++ kind) ++ i) ++ e) s h₄ h₅ 32 l₄ (omega (arith, ld, ls)) p₄ c₅ in
-    let l₆ : length ((((((magic ++ v) ++ kind) ++ i) ++ e) ++ s) ++ n) ≡ 44 = length-append (((((magic ++ v) ++ kind) ++ i) ++ e) ++ s) n ∙ ap₂ (λ (k m : ℕ). k + m) l₅ ln in
-    let p₆ = part_copied d (((((magic ++ v) ++ kind) ++ i) ++ e) ++ s) n h₅ h₆ 40 l₅ (omega (arith, ld, ln)) p₅ c₆ in
-    let joined : ((((((magic ++ v) ++ kind) ++ i) ++ e) ++ s) ++ n) ≡ magic ++ (v ++ (kind ++ (i ++ (e ++ (s ++ n))))) = simp append_assoc in
-    p₆ ∙ overlay_whole d _ (l₆ ∙ sym ld) ∙ joined ∙ (λ j. magic ++ (ev j ++ (t ∷ 0 ∷ (i ++ (ee j ++ (es j ++ en j))))))
+module _ (t epoch : ℕ) (m v i a e : List ℕ) (li : length i ≡ 16) (em : m ≡ magic) (ev : v ≡ bytes_low_first 0 2 1) (ea : a ≡ i) (ee : e ≡ bytes_low_first 0 8 epoch) where
+  le : length e ≡ 8
+  le = ap length ee
+
+  as_far_as_epoch : put_mid 24 8 (put_mid 8 16 (set (put_mid 4 2 (m ++ replicate 40 0) v) 6 t) a) e ≡ ((begun t ++ i) ++ e) ++ replicate 12 0
+  as_far_as_epoch =
+      let w : length (begun t ++ i) ≡ 24 = simp length-append (omega arith) in
+      let z : List ℕ = replicate 40 0 in
+      (λ j. put_mid 24 8 (put_mid 8 16 (set (put_mid 4 2 (em j ++ z) (ev j)) 6 t) (ea j)) e)
+      ∙ (λ j. put_mid 24 8 (part_written (begun t) i 8 16 20 refl li j) e)
+      ∙ part_written (begun t ++ i) e 24 8 12 w le
+
+  length_to_epoch : length ((begun t ++ i) ++ e) ≡ 32
+  length_to_epoch = simp length-append (omega (arith, li, le))
+
+  pub room_behind_epoch : 40 ≤ length (put_mid 24 8 (put_mid 8 16 (set (put_mid 4 2 (m ++ replicate 40 0) v) 6 t) a) e)
+  room_behind_epoch = rw as_far_as_epoch (simp length-append (omega (arith, li, le)))
+
+  module _ (seq : ℕ) (s : List ℕ) (es : s ≡ bytes_low_first 0 8 seq) where
+    ls : length s ≡ 8
+    ls = ap length es
+
+    as_far_as_sequence : put_mid 32 8 (put_mid 24 8 (put_mid 8 16 (set (put_mid 4 2 (m ++ replicate 40 0) v) 6 t) a) e) s ≡ (((begun t ++ i) ++ e) ++ s) ++ replicate 4 0
+    as_far_as_sequence = ap (λ (h : List ℕ). put_mid 32 8 h s) as_far_as_epoch ∙ part_written ((begun t ++ i) ++ e) s 32 8 4 length_to_epoch ls
+
+    length_to_sequence : length (((begun t ++ i) ++ e) ++ s) ≡ 40
+    length_to_sequence = simp length-append (omega (arith, li, le, ls))
+
+    pub room_behind_sequence : 44 ≤ length (put_mid 32 8 (put_mid 24 8 (put_mid 8 16 (set (put_mid 4 2 (m ++ replicate 40 0) v) 6 t) a) e) s)
+    room_behind_sequence = rw as_far_as_sequence (simp length-append (omega (arith, li, le, ls)))
+
+    pub header_written : (size : ℕ) (n : List ℕ) → n ≡ bytes_low_first 0 4 size
+        → put_mid 40 4 (put_mid 32 8 (put_mid 24 8 (put_mid 8 16 (set (put_mid 4 2 (m ++ replicate 40 0) v) 6 t) a) e) s) n ≡ header_bytes t i epoch seq size
+    unfolding header_bytes to_le
+    header_written size n en =
+        let joined : ((((begun t ++ i) ++ e) ++ s) ++ n) ++ [] ≡ begun t ++ (i ++ (e ++ (s ++ n))) = simp (append-nil, append_assoc) in
+        ap (λ (h : List ℕ). put_mid 40 4 h n) as_far_as_sequence
+        ∙ part_written (((begun t ++ i) ++ e) ++ s) n 40 4 0 length_to_sequence (ap length en)
+        ∙ joined
+        ∙ (λ j. begun t ++ (i ++ ((ee ∙ sym (written 8 epoch)) j ++ ((es ∙ sym (written 8 seq)) j ++ (en ∙ sym (written 4 size)) j))))
 
 pub header_length : (t : ℕ) (i : List ℕ) (e s n : ℕ) → length i ≡ 16 → length (header_bytes t i e s n) ≡ 44
 unfolding header_bytes

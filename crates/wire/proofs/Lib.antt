@@ -2,5 +2,4 @@ pub mod NumberLaws
 pub mod Overlays
 pub mod Headers
 pub mod Rows
-pub mod Reading
 pub mod PartLaws

@@ -2,8 +2,6 @@
 ghost use Rattle.std.specs.Prelude.{◌≡◌};
 ghost use Rattle.wire.specs.Header.{header_bytes};
 
-use crate::copying::copy_at;
-use crate::numbers::{u16_to_le_bytes, u32_to_le_bytes, u64_to_le_bytes};
 use crate::{Epoch, Sequence};
 
 // Magic of every outer record.
@@ -21,19 +19,14 @@ pub fn encode_header(
 ) -> [u8; 44]
     ensures { result ≡ header_bytes record_type instance_id epoch.0 sequence.0 length }
 {
-    let magic = OUTER_MAGIC;
-    let version = u16_to_le_bytes(OUTER_VERSION);
-    let type_and_flags = [record_type, 0];
-    let epoch_bytes = u64_to_le_bytes(epoch.0);
-    let sequence_bytes = u64_to_le_bytes(sequence.0);
-    let length_bytes = u32_to_le_bytes(length);
     let mut header = [0u8; 44];
-    copy_at(&mut header, 0, &magic);
-    copy_at(&mut header, 4, &version);
-    copy_at(&mut header, 6, &type_and_flags);
-    copy_at(&mut header, 8, &instance_id);
-    copy_at(&mut header, 24, &epoch_bytes);
-    copy_at(&mut header, 32, &sequence_bytes);
-    copy_at(&mut header, 40, &length_bytes);
+    header[..4].copy_from_slice(&OUTER_MAGIC);
+    header[4..6].copy_from_slice(&OUTER_VERSION.to_le_bytes());
+    header[6] = record_type;
+    // The flags, header[7], stay zero.
+    header[8..24].copy_from_slice(&instance_id);
+    header[24..32].copy_from_slice(&epoch.0.to_le_bytes());
+    header[32..40].copy_from_slice(&sequence.0.to_le_bytes());
+    header[40..].copy_from_slice(&length.to_le_bytes());
     header
 }

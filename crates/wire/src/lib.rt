@@ -1,29 +1,27 @@
-// What every layer uses: refusals, epochs and sequences, numbers of fixed width (`numbers`), a
-// header's 44 bytes read (`fields`) and written (`header`), and bytes copied and cut (`copying`,
-// `parts`).
+// What every layer uses: refusals, epochs and sequences, a header's 44 bytes read (`fields`) and
+// written (`header`), and bytes copied and cut (`copying`, `parts`).
 #![tactic(auto)]
 
 pub mod copying;
 pub mod fields;
 pub mod header;
-pub mod numbers;
 pub mod parts;
 
-ghost use Rattle.std.specs.Prelude.{◌≡◌, min};
+ghost use Rattle.std.specs.Prelude.{◌≡◌};
 ghost use Rattle.wire.specs.Refusals.{refusal, none};
 
 // The epoch of a session: a RESET starts a new one. (01: epoch and sequence are counted
 // separately, and one given in the other's place does not build.)
-#[derive(Clone, Copy)]
+#[derive(Clone, Copy, Debug, PartialEq, Eq, PartialOrd, Ord, Hash)]
 pub struct Epoch(pub u64);
 
 // The number of a record in its direction of a session.
-#[derive(Clone, Copy)]
+#[derive(Clone, Copy, Debug, PartialEq, Eq, PartialOrd, Ord, Hash)]
 pub struct Sequence(pub u64);
 
 // 01's record of a refusal: its number, three figures and two fields of 16 bytes; what a number
 // does not use is 0. Number 0: no refusal. All of it is in whole words, which move without gaps.
-#[derive(Clone, Copy)]
+#[derive(Clone, Copy, Debug, PartialEq, Eq)]
 pub struct Refusal {
     pub number: u64,
     pub a: u64,
@@ -54,11 +52,4 @@ impl Refusal {
             actual: [0u8; 16],
         }
     }
-}
-
-// The smaller of two lengths.
-pub fn least(a: usize, b: usize) -> usize
-    ensures { result ≡ min a b }
-{
-    if a < b { a } else { b }
 }

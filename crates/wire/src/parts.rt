@@ -3,19 +3,17 @@ ghost use Rattle.std.specs.Prelude.{◌≡◌, take, drop};
 ghost use Rattle.wire.specs.Bytes.{copied};
 
 use crate::copying::copy_at;
-use crate::least;
 
+#[tactic(auto, using(crate::proofs::PartLaws::copied_whole))]
 // The header with a part of a piece from an index on. Where it does not fit the header stays. A
-// whole header is copied by itself: the compiler then knows its size, and makes two moves of it.
+// whole header is answered by itself: the compiler then knows its size, and makes two moves of it.
 pub fn filled(header: [u8; 44], at: usize, part: &[u8]) -> [u8; 44]
     ensures { result ≡ copied header at part.now }
 {
     let mut bytes = header;
-    if at == 0 {
-        if part.len() == 44 {
-            copy_at(&mut bytes, 0, &part[0..44]);
-            return bytes;
-        }
+    if at == 0 && part.len() == 44 {
+        bytes.copy_from_slice(part);
+        return bytes;
     }
     copy_at(&mut bytes, at, part);
     bytes
@@ -25,7 +23,6 @@ pub fn filled(header: [u8; 44], at: usize, part: &[u8]) -> [u8; 44]
 pub fn part<'a>(s: &'a [u8], at: usize, size: usize) -> &'a [u8]
     ensures { result.now ≡ take size (drop at s.now) }
 {
-    let start = least(at, s.len());
-    let end = start + least(size, s.len() - start);
-    &s[start..end]
+    let rest = &s[at.min(s.len())..];
+    &rest[..size.min(rest.len())]
 }
