@@ -17,7 +17,7 @@ use record::header::is_data;
 use session::{Identity, OptionalIdentity, no_identity, same_instance};
 use wire::copying::copy_at;
 use wire::parts::filled;
-use wire::{Refusal, Sequence, fields, least};
+use wire::{Refusal, Sequence, fields};
 
 // Whether DATA may flow: an Active session that is sound, with no header held but one of DATA, and
 // a whole stage.
@@ -137,7 +137,7 @@ fn data_step(
     }
     let before = session.parser.payload_len;
     let size = fields::length(header) as usize;
-    let n = least(size - before, rest.len());
+    let n = (size - before).min(rest.len());
     if before + n < size {
         copy_at(stage, before, &rest[0..n]);
         return waits(
@@ -159,7 +159,7 @@ fn with_front(header: [u8; 44], had: usize, piece: &[u8]) -> [u8; 44]
     requires { had ≤ 44 }
     ensures { result ≡ head_with header had piece.now }
 {
-    let n = least(OUTER_HEADER_LEN - had, piece.len());
+    let n = (OUTER_HEADER_LEN - had).min(piece.len());
     filled(header, had, &piece[0..n])
 }
 
@@ -170,7 +170,7 @@ fn head_step(session: GuestSession, header: [u8; 44], piece: &[u8], stage: &mut 
     ensures { Stepped result session header (push_of session.parser piece.now stage.old) stage.old stage.new }
 {
     let had = session.parser.header_len;
-    let n = least(OUTER_HEADER_LEN - had, piece.len());
+    let n = (OUTER_HEADER_LEN - had).min(piece.len());
     if had + n < OUTER_HEADER_LEN {
         return waits(session.receive_sequence, had + n, 0, n);
     }

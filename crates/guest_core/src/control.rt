@@ -15,7 +15,6 @@ use record::codec::encode_record;
 use record::types::RecordType;
 use session::Identity;
 use session::checks::stopped;
-use wire::numbers::u32_to_le_bytes;
 use wire::{Epoch, Refusal, Sequence};
 
 // What `disconnect` answers.
@@ -41,11 +40,12 @@ fn write_attach(output: &mut [u8], at: usize) -> Written
     )
 }
 
+#[tactic(auto, using(wire::proofs::NumberLaws::written))]
 // Writes ACK with sequence 0.
 fn write_ack(identity: Identity, window: u32, output: &mut [u8], at: usize) -> Written
     ensures { outer.outcome result output.new ≡ encode_record 4 identity.instance_id identity.epoch.0 0 (to_le 4 window) output.old at }
 {
-    let payload = u32_to_le_bytes(window);
+    let payload = window.to_le_bytes();
     let instance_id = identity.instance_id;
     encode_record(
         RecordType::Ack,

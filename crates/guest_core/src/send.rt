@@ -16,7 +16,6 @@ use crate::answers::{Sent, not_sent, record_sent};
 use record::types::RecordType;
 use session::checks::stopped;
 use session::next::{Encoded, encode_data, encode_next};
-use wire::numbers::u32_to_le_bytes;
 use wire::{Refusal, Sequence};
 
 // Any send: 23, 20, then the DATA record.
@@ -107,7 +106,7 @@ fn credited(session: GuestSession, bytes: u32, output: &mut [u8], at: usize) -> 
     requires { (bytes ≤ session.outstanding) × (credit_ok bytes ≡ true) }
     ensures { outcome result output.new ≡ writes (first (write_rows session output.old at)) session (sent_guest session (session.outstanding - bytes)) 0 (identity_bytes 9 session.identity.identity session.send_sequence.0 (to_le 4 bytes)) output.old at }
 {
-    let payload = u32_to_le_bytes(bytes);
+    let payload = bytes.to_le_bytes();
     let encoded = encode_next(
         RecordType::Credit,
         session.identity.identity,

@@ -18,7 +18,8 @@ use Rattle.wire.specs.declared.Refusal.{Refusal}
 use Rattle.outer.specs.declared.OuterHeader.{OuterHeader}
 use Rattle.outer.specs.declared.Written.{Written}
 use Rattle.outer.specs.declared.DecodedHeader.{DecodedHeader}
-use Rattle.wire.proofs.Headers.{header_length}
+use Rattle.std.specs.Int.{w32, from_le_bytes}
+use Rattle.wire.proofs.Headers.{header_length, magic_read}
 use Rattle.wire.proofs.Overlays.{copied_fits, overlay_next, length_overlay}
 
 -- ---- a record written at a position
@@ -82,20 +83,20 @@ module _ (t : ℕ) (i : List ℕ) (e s : ℕ) (payload o : List ℕ) (at : ℕ) 
 pub ruleset encoding-outer = (outer_24, outer_put)
 
 -- ---- decode_outer_header
-module _ (h : List ℕ) (x y : ℕ) (ex : x ≡ magic_of h) (ey : y ≡ from_le magic) where
+module _ (h : List ℕ) (x y : ℕ) (ex : x ≡ magic_of h) (ey : y ≡ from_le_bytes w32 magic) where
   pub wrong_magic : (x ≡ y → ⊥) → false ≡ outer_ok h
   unfolding outer_ok
-  wrong_magic n = simp (ne_eqb (magic_of h) (from_le magic) (λ q. n (ex ∙ q ∙ sym ey)))
+  wrong_magic n = simp (ne_eqb (magic_of h) (from_le magic) (λ q. n (ex ∙ q ∙ sym (ey ∙ magic_read))))
 
   module _ (q : x ≡ y) (v : ℕ) (ev : v ≡ version_of h) where
     pub wrong_version : (v ≡ 1 → ⊥) → false ≡ outer_ok h
     unfolding outer_ok
-    wrong_version n = simp (eq-eqb (magic_of h) (from_le magic) (sym ex ∙ q ∙ ey), ne_eqb (version_of h) 1 (λ p. n (ev ∙ p)))
+    wrong_version n = simp (eq-eqb (magic_of h) (from_le magic) (sym ex ∙ q ∙ ey ∙ magic_read), ne_eqb (version_of h) 1 (λ p. n (ev ∙ p)))
 
     pub right_version : (f : ℕ) → v ≡ 1 → f ≡ flags_of h → eqb f 0 ≡ outer_ok h
     unfolding outer_ok
     right_version f p ef =
-        simp (eq-eqb (magic_of h) (from_le magic) (sym ex ∙ q ∙ ey), eq-eqb (version_of h) 1 (sym ev ∙ p)) (ap (λ (k : ℕ). eqb k 0) ef)
+        simp (eq-eqb (magic_of h) (from_le magic) (sym ex ∙ q ∙ ey ∙ magic_read), eq-eqb (version_of h) 1 (sym ev ∙ p)) (ap (λ (k : ℕ). eqb k 0) ef)
 
 pub ruleset outer-tests = (wrong_magic, wrong_version, right_version)
 

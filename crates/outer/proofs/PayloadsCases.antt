@@ -13,7 +13,7 @@ use Rattle.outer.specs.Outer.{window_ok, credit_ok, value_of}
 use Rattle.outer.specs.Payloads.{accepted_encoding, refused_encoding, accepted_decoding, refused_decoding, encode_payload, decode_payload}
 use Rattle.outer.specs.declared.payloads.EncodedPayload.{EncodedPayload}
 use Rattle.outer.specs.declared.payloads.DecodedPayload.{DecodedPayload}
-use Rattle.wire.proofs.NumberLaws.{at_whole}
+use Rattle.wire.proofs.NumberLaws.{at_whole, number_4}
 
 -- ---- values and their limits
 pub window_low : (w : ℕ) → w < 65536 → false ≡ window_ok w
@@ -43,7 +43,7 @@ pub value_four : (p : List ℕ) (v : ℕ) → length p ≡ 4 → v ≡ from_le (
 unfolding value_of
 value_four p v h e = simp (eq-eqb (length p) 4 h) (e ∙ ap from_le (at_whole 4 p h))
 
-pub ruleset valuing = (value_other, value_four)
+pub ruleset valuing = (number_4, value_other, value_four)
 
 -- over the test and its number, which is not 0
 module _ (ok : ℕ → Bool) (number : ℕ) (named : eqb number 0 ≡ false) where

@@ -9,7 +9,6 @@ ghost use Rattle.outer.specs.Outer.{outcome, not_written, put_record, encode_out
 
 use wire::copying::copy_at;
 use wire::header::{OUTER_MAGIC, OUTER_VERSION, encode_header};
-use wire::numbers::u32_from_le_bytes;
 use wire::{Epoch, Refusal, Sequence, fields};
 
 // Length of an outer record header.
@@ -95,7 +94,7 @@ pub fn encode_outer(
 fn is_outer(header: &[u8; 44]) -> bool
     ensures { result ≡ outer_ok header.now }
 {
-    if fields::magic(header) != u32_from_le_bytes(OUTER_MAGIC) {
+    if fields::magic(header) != u32::from_le_bytes(OUTER_MAGIC) {
         return false;
     }
     if fields::version(header) != OUTER_VERSION {

@@ -4,7 +4,6 @@ ghost use Rattle.outer.specs.Outer.{window_ok, credit_ok, value_of};
 ghost use Rattle.outer.specs.Payloads.{accepted_encoding, refused_encoding, accepted_decoding, refused_decoding, encode_ack_payload, decode_ack_payload, encode_credit_payload, decode_credit_payload};
 
 use wire::Refusal;
-use wire::numbers::{u32_from_le_bytes, u32_to_le_bytes};
 
 // Receive window that the NVX guest advertises after a reset.
 pub const OUTER_RECEIVE_WINDOW: u32 = 1048576;
@@ -47,13 +46,14 @@ pub fn credit_ok(bytes: u32) -> bool
     bytes <= OUTER_MAX_RECEIVE_WINDOW
 }
 
+#[tactic(auto, using(wire::proofs::NumberLaws::written))]
 // The four bytes of a value that is accepted.
 fn encoded(value: u32) -> EncodedPayload
     ensures { result ≡ accepted_encoding value }
 {
     EncodedPayload {
         refusal: Refusal::none(),
-        payload: u32_to_le_bytes(value),
+        payload: value.to_le_bytes(),
     }
 }
 
@@ -94,7 +94,7 @@ pub fn value(payload: &[u8]) -> u32
     if payload.len() != 4 {
         return 0;
     }
-    u32_from_le_bytes([payload[0], payload[1], payload[2], payload[3]])
+    u32::from_le_bytes([payload[0], payload[1], payload[2], payload[3]])
 }
 
 // Encodes the initial receive window of an ACK record.

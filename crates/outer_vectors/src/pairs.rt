@@ -3,7 +3,6 @@ use outer::payloads::{
     DecodedPayload, EncodedPayload, decode_ack_payload, decode_credit_payload, encode_ack_payload,
     encode_credit_payload,
 };
-use wire::numbers::u32_to_le_bytes;
 
 // The end of a line: the four bytes, or the refusal.
 fn encoded(answer: EncodedPayload) {
@@ -44,14 +43,14 @@ fn decode_credit(payload: &[u8]) {
 fn ack(window: u32) {
     print::labelled(b"encode_ack_payload ", window as u64);
     encoded(encode_ack_payload(window));
-    decode_ack(&u32_to_le_bytes(window));
+    decode_ack(&window.to_le_bytes());
 }
 
 // A credit encoded, and its four bytes decoded.
 fn credit(bytes: u32) {
     print::labelled(b"encode_credit_payload ", bytes as u64);
     encoded(encode_credit_payload(bytes));
-    decode_credit(&u32_to_le_bytes(bytes));
+    decode_credit(&bytes.to_le_bytes());
 }
 
 // Both ends of a window's range, and the next beyond each.

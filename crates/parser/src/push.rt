@@ -15,7 +15,7 @@ use record::header::{check_header, header_ok};
 use record::no_record;
 use wire::copying::copy_at;
 use wire::parts::{filled, part};
-use wire::{Refusal, fields, least};
+use wire::{Refusal, fields};
 
 // Nothing changed.
 fn stop(parser: RecordParser, refusal: Refusal) -> Pushed
@@ -145,7 +145,7 @@ fn payload_step(
     ensures { outcome result stage.new ≡ outcome (push_body header before (take before stage.old) rest.now from).answer (body_stage header before rest.now stage.old) }
 {
     let size = fields::length(&header) as usize;
-    let n = least(size - before, rest.len());
+    let n = (size - before).min(rest.len());
     let taken = &rest[0..n];
     let end = from + n;
     let come = before + n;
@@ -181,7 +181,7 @@ fn header_step(
     requires { (had ≤ 44) × (before ≤ length_of (head_with header had piece.now)) × (65536 ≤ length stage.old) }
     ensures { outcome result stage.new ≡ outcome (push_head header had before (take before stage.old) piece.now).answer (head_stage header had before piece.now stage.old) }
 {
-    let n = least(OUTER_HEADER_LEN - had, piece.len());
+    let n = (OUTER_HEADER_LEN - had).min(piece.len());
     let bytes = filled(header, had, &piece[0..n]);
     let come = had + n;
     if come < OUTER_HEADER_LEN {

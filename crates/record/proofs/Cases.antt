@@ -16,7 +16,8 @@ use Rattle.wire.specs.declared.Sequence.{Sequence}
 use Rattle.wire.specs.declared.Refusal.{Refusal}
 use Rattle.outer.specs.declared.Written.{Written}
 use Rattle.wire.proofs.Rows.{Passed, picked, passed, pass_all, and_right, no_rows, row_stops, row_passes, rows_stop, rows_pass}
-use Rattle.wire.proofs.Headers.{header_length}
+use Rattle.std.specs.Int.{w32, from_le_bytes}
+use Rattle.wire.proofs.Headers.{header_length, magic_read}
 use Rattle.record.specs.Types.{code_of, type_at, type_ok, bootstrap, length_ok, error_at}
 use Rattle.record.proofs.TypesCases.{known_code, code_low, unknown_code, length_limit}
 use Rattle.record.specs.Record.{all_zero, length_row, bootstrap_row, payload_rows, payload_checks, rest_rows, header_rows, header_checks, type_from, record_with, record_of}
@@ -131,14 +132,14 @@ module _ (t : ℕ) (h : List ℕ) (f : ℕ) (ef : f ≡ flags_of h) where
 
 pub ruleset resting = (rest_flags, rest_length, rest_bootstrap)
 
-module _ (h : List ℕ) (m g : ℕ) (em : m ≡ magic_of h) (eg : g ≡ from_le magic) where
+module _ (h : List ℕ) (m g : ℕ) (em : m ≡ magic_of h) (eg : g ≡ from_le_bytes w32 magic) where
   pub head_magic : (x : Refusal) → (m ≡ g → ⊥) → x ≡ refusal 1 m 0 0 → x ≡ header_checks h
   unfolding header_checks
-  head_magic x n q = row_stops _ _ x _ (ne_eqb (magic_of h) (from_le magic) (λ p. n (em ∙ p ∙ sym eg))) (q ∙ ap (λ (j : ℕ). refusal 1 j 0 0) em)
+  head_magic x n q = row_stops _ _ x _ (ne_eqb (magic_of h) (from_le magic) (λ p. n (em ∙ p ∙ sym (eg ∙ magic_read)))) (q ∙ ap (λ (j : ℕ). refusal 1 j 0 0) em)
 
   module _ (v : ℕ) (p : m ≡ g) (ev : v ≡ version_of h) where
     magic_pass : eqb (magic_of h) (from_le magic) ≡ true
-    magic_pass = eq-eqb (magic_of h) (from_le magic) (sym em ∙ p ∙ eg)
+    magic_pass = eq-eqb (magic_of h) (from_le magic) (sym em ∙ p ∙ eg ∙ magic_read)
 
     pub head_version : (x : Refusal) → (v ≡ 1 → ⊥) → x ≡ refusal 2 v 0 0 → x ≡ header_checks h
     unfolding header_checks
@@ -167,14 +168,14 @@ module _ (h : List ℕ) (m g : ℕ) (em : m ≡ magic_of h) (eg : g ≡ from_le 
 pub ruleset heading = (head_magic, head_version, head_type, head_rest)
 
 -- a header of DATA that passes, and what the checks say by their number
-data_passes : (h : List ℕ) (m g v t f n : ℕ) (b : Bool) → m ≡ magic_of h → g ≡ from_le magic → m ≡ g → v ≡ version_of h → v ≡ 1 → t ≡ type_of h → t ≡ 5 → f ≡ flags_of h → f ≡ 0
+data_passes : (h : List ℕ) (m g v t f n : ℕ) (b : Bool) → m ≡ magic_of h → g ≡ from_le_bytes w32 magic → m ≡ g → v ≡ version_of h → v ≡ 1 → t ≡ type_of h → t ≡ 5 → f ≡ flags_of h → f ≡ 0
     → n ≡ length_of h → b ≡ length_ok 5 n → b ≡ true → passes (header_checks h) ≡ true
 unfolding header_checks
 data_passes h m g v t f n b em eg mg ev v1 et t5 ef f0 en eb ok =
     let five : type_of h ≡ 5 = sym et ∙ t5 in
     let size : length_ok (type_of h) (length_of h) ≡ true = (λ j. length_ok (five j) (sym en j)) ∙ sym eb ∙ ok in
     pass_all (header_rows h) (
-      eq-eqb (magic_of h) (from_le magic) (sym em ∙ mg ∙ eg),
+      eq-eqb (magic_of h) (from_le magic) (sym em ∙ mg ∙ eg ∙ magic_read),
       (
         eq-eqb (version_of h) 1 (sym ev ∙ v1),
         (
@@ -207,8 +208,8 @@ module _ (h : List ℕ) where
   not_data : (eqb (type_of h) 5 ≡ true → passes (header_checks h) ≡ true → ⊥) → false ≡ eqb (type_of h) 5 && passes (header_checks h)
   not_data = neither (eqb (type_of h) 5) (passes (header_checks h))
 
-  pub data_magic : (m g : ℕ) → m ≡ magic_of h → g ≡ from_le magic → (m ≡ g → ⊥) → false ≡ eqb (type_of h) 5 && passes (header_checks h)
-  data_magic m g em eg n = not_data (λ t p. n (em ∙ eqb-true (magic_of h) (from_le magic) (rows_hold p).0 ∙ sym eg))
+  pub data_magic : (m g : ℕ) → m ≡ magic_of h → g ≡ from_le_bytes w32 magic → (m ≡ g → ⊥) → false ≡ eqb (type_of h) 5 && passes (header_checks h)
+  data_magic m g em eg n = not_data (λ t p. n (em ∙ eqb-true (magic_of h) (from_le magic) (rows_hold p).0 ∙ sym (eg ∙ magic_read)))
 
   pub data_version : (v : ℕ) → v ≡ version_of h → (v ≡ 1 → ⊥) → false ≡ eqb (type_of h) 5 && passes (header_checks h)
   data_version v ev n = not_data (λ t p. n (ev ∙ eqb-true (version_of h) 1 (rows_hold p).1.0))
@@ -219,7 +220,7 @@ module _ (h : List ℕ) where
   pub data_flags : (f : ℕ) → f ≡ flags_of h → (f ≡ 0 → ⊥) → false ≡ eqb (type_of h) 5 && passes (header_checks h)
   data_flags f ef n = not_data (λ t p. n (ef ∙ eqb-true (flags_of h) 0 (rows_hold p).1.1.1.0))
 
-  pub data_length_lem : (m g v k f n : ℕ) (b : Bool) → m ≡ magic_of h → g ≡ from_le magic → m ≡ g → v ≡ version_of h → v ≡ 1 → k ≡ type_of h → k ≡ 5 → f ≡ flags_of h → f ≡ 0
+  pub data_length_lem : (m g v k f n : ℕ) (b : Bool) → m ≡ magic_of h → g ≡ from_le_bytes w32 magic → m ≡ g → v ≡ version_of h → v ≡ 1 → k ≡ type_of h → k ≡ 5 → f ≡ flags_of h → f ≡ 0
       → n ≡ length_of h → b ≡ length_ok 5 n → b ≡ eqb (type_of h) 5 && passes (header_checks h)
   data_length_lem m g v k f n b em eg mg ev v1 ek k5 ef f0 en eb = go b refl
     where

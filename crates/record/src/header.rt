@@ -8,7 +8,6 @@ ghost use Rattle.record.specs.Record.{rest_rows, header_checks};
 use crate::checks::{check_bootstrap, check_length};
 use crate::types::{RecordType, TypeLookup};
 use wire::header::{OUTER_MAGIC, OUTER_VERSION};
-use wire::numbers::u32_from_le_bytes;
 use wire::{Refusal, fields};
 
 // The checks that follow the type's: 4, 5, 6.
@@ -36,7 +35,7 @@ pub fn check_header(header: &[u8; 44]) -> Refusal
     ensures { result ≡ header_checks header.now }
 {
     let magic = fields::magic(header);
-    if magic != u32_from_le_bytes(OUTER_MAGIC) {
+    if magic != u32::from_le_bytes(OUTER_MAGIC) {
         return Refusal::new(1, magic as u64, 0, 0);
     }
     let version = fields::version(header);
@@ -54,7 +53,7 @@ pub fn check_header(header: &[u8; 44]) -> Refusal
 pub fn is_data(header: &[u8; 44]) -> bool
     ensures { result ≡ eqb (type_of header.now) 5 && passes (header_checks header.now) }
 {
-    if fields::magic(header) != u32_from_le_bytes(OUTER_MAGIC) {
+    if fields::magic(header) != u32::from_le_bytes(OUTER_MAGIC) {
         return false;
     }
     if fields::version(header) != OUTER_VERSION {

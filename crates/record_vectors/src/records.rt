@@ -7,7 +7,7 @@ use parser::{RecordParser, push};
 use record::codec::encode_record;
 use record::types::RecordType;
 use wire::header::encode_header;
-use wire::{Epoch, Sequence, least};
+use wire::{Epoch, Sequence};
 
 // Instance, epoch and sequence of a record.
 #[derive(Clone, Copy)]
@@ -122,7 +122,7 @@ fn push_all(bytes: &[u8], n: usize, stage: &mut [u8])
     let mut taken: u64 = 0;
     let mut at: usize = 0;
     while at < bytes.len() {
-        let end = at + least(n, bytes.len() - at);
+        let end = at + n.min(bytes.len() - at);
         let piece = &bytes[at..end];
         let pushed = push::push(parser, piece, stage);
         taken = std::num::wrapping_add_u64(taken, pushed.consumed as u64);

@@ -1,11 +1,10 @@
 // The values of ACK, CREDIT and ERROR records; others give 8, 9 and 7.
 use crate::records::{fields_of, there_and_back};
 use record::types::RecordType;
-use wire::numbers::u32_to_le_bytes;
 
 // A record of a type with a number for its payload, in pieces that end within header and payload.
 fn value(record_type: RecordType, number: u32) {
-    let payload = u32_to_le_bytes(number);
+    let payload = number.to_le_bytes();
     there_and_back(record_type, fields_of(record_type), &payload, 23);
 }
 

@@ -3,7 +3,6 @@ use crate::frame::{OUTPUT, after};
 use session::Identity;
 use wire::Refusal;
 use wire::copying::copy_at;
-use wire::numbers::{u32_to_le_bytes, u64_to_le_bytes};
 
 // Bytes of an answer's head.
 pub const HEAD: usize = 128;
@@ -77,14 +76,14 @@ pub fn put1(answer: Answer, at: usize, value: u8) -> Answer {
 
 // Stores a number of four bytes.
 pub(crate) fn put4(answer: Answer, at: usize, value: u32) -> Answer {
-    let b = u32_to_le_bytes(value);
+    let b = value.to_le_bytes();
     put(answer, at, &b)
 }
 
 // Stores a number of eight bytes.
 // Internal: harness code, held to the Rust's answers by the run.
 pub fn put8(answer: Answer, at: usize, value: u64) -> Answer {
-    let b = u64_to_le_bytes(value);
+    let b = value.to_le_bytes();
     put(answer, at, &b)
 }
 

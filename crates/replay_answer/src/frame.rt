@@ -1,6 +1,5 @@
 // A call's frame, and parts of slices (tests/differential/FORMAT.md).
 use wire::copying::copy_at;
-use wire::numbers::{u32_from_le_bytes, u64_from_le_bytes};
 
 // The most bytes that one answer takes.
 const ROOM: usize = 66048;
@@ -36,7 +35,7 @@ pub fn byte(s: &[u8], at: usize) -> u8 {
 fn four(s: &[u8], at: usize) -> u32 {
     let mut b = [0u8; 4];
     copy_at(&mut b, 0, cut(s, at, 4));
-    u32_from_le_bytes(b)
+    u32::from_le_bytes(b)
 }
 
 // A number of eight bytes; 0 where they do not fit.
@@ -44,7 +43,7 @@ fn four(s: &[u8], at: usize) -> u32 {
 pub fn eight(s: &[u8], at: usize) -> u64 {
     let mut b = [0u8; 8];
     copy_at(&mut b, 0, cut(s, at, 8));
-    u64_from_le_bytes(b)
+    u64::from_le_bytes(b)
 }
 
 // Sixteen bytes; zeros where they do not fit.

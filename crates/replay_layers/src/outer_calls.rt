@@ -9,7 +9,6 @@ use replay_answer::answer::{
 use replay_answer::frame::{Frame, byte, eight, low, output, sixteen};
 use session::Identity;
 use wire::copying::copy_at;
-use wire::numbers::u32_from_le_bytes;
 use wire::{Epoch, Sequence};
 
 // The fields that stand before an encoder's payload: type, instance, epoch, sequence.
@@ -99,7 +98,7 @@ fn encoded(e: EncodedPayload) -> Answer {
     let payload = e.payload;
     let four = Ask {
         mark: 1,
-        value: u32_from_le_bytes(payload),
+        value: u32::from_le_bytes(payload),
     };
     put_ask(blank(), 112, 116, four)
 }

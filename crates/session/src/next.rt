@@ -7,7 +7,7 @@ use crate::{Identity, next_sequence};
 use outer::OUTER_MAX_PAYLOAD;
 use record::codec::encode_record;
 use record::types::RecordType;
-use wire::{Refusal, Sequence, least};
+use wire::{Refusal, Sequence};
 
 // What encoding the next record answers: bytes of data taken, the position after the record and the
 // sequence after it.
@@ -95,7 +95,7 @@ pub fn encode_data(
 ) -> Encoded
     ensures { outcome result output.new ≡ encode_data identity sequence.0 bytes.now output.old at }
 {
-    let taken = least(bytes.len(), OUTER_MAX_PAYLOAD);
+    let taken = bytes.len().min(OUTER_MAX_PAYLOAD);
     encode_counted(
         RecordType::Data,
         identity,

@@ -9,8 +9,8 @@ use Rattle.std.proofs.lemmas.List.{drop-replicate}
 use lib.Dec.{lit<}
 use Rattle.wire.specs.Bytes.{from_le, to_le, bytes_at, Octets, end, octet}
 use Rattle.wire.specs.Header.{magic, magic_of, version_of, type_of, flags_of, instance_of, epoch_of, sequence_of, length_of, header_bytes}
-use Rattle.std.specs.Int.{bytes_low_first}
-use Rattle.wire.proofs.NumberLaws.{at_whole, at_octets, length_at, length_to, to_from, written}
+use Rattle.std.specs.Int.{w32, from_le_bytes, bytes_low_first}
+use Rattle.wire.proofs.NumberLaws.{at_whole, at_octets, length_at, length_to, to_from, read_4, written}
 use borrow.Rule.Slice.PartMut.{put_mid}
 
 -- one more part written behind the parts that stand there, zeros behind it
@@ -69,6 +69,10 @@ module _ (t epoch : ℕ) (m v i a e : List ℕ) (li : length i ≡ 16) (em : m �
 pub header_length : (t : ℕ) (i : List ℕ) (e s n : ℕ) → length i ≡ 16 → length (header_bytes t i e s n) ≡ 44
 unfolding header_bytes
 header_length t i e s n l = simp length-append (omega (arith, l, length_to 2 1, length_to 8 e, length_to 8 s, length_to 4 n))
+
+-- the number of the magic, as the library reads it
+pub magic_read : from_le_bytes w32 magic ≡ from_le magic
+magic_read = sym (read_4 magic refl)
 
 -- ---- a header whose magic, version and flags are right is the encoding of its fields
 magic_octets : Octets magic

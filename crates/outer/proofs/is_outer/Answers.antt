@@ -2,8 +2,8 @@
 use Rattle.outer.proofs.Cases.{outer-tests}
 use Rattle.outer.proofs.is_outer.Goals as goal
 
-pub returns-then-magic-u32_from_le_bytes : goal.returns-then-magic-u32_from_le_bytes
-returns-then-magic-u32_from_le_bytes c = search outer-tests
+pub returns-then-magic-from_le_bytes : goal.returns-then-magic-from_le_bytes
+returns-then-magic-from_le_bytes c = search outer-tests
 
 pub returns-then-version-ne-OUTER_VERSION : goal.returns-then-version-ne-OUTER_VERSION
 returns-then-version-ne-OUTER_VERSION c = search outer-tests

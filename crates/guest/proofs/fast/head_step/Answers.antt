@@ -14,7 +14,7 @@ pub data_step-requires : goal.data_step-requires
 data_step-requires c =
     let s = c.args in
     let p = c.requires in
-    let a = front_asks s.session s.piece.now s.stage.now c.least-n.result s.header p.0 c.least-n.ensures p.1 in
+    let a = front_asks s.session s.piece.now s.stage.now c.min-n.result s.header p.0 c.min-n.ensures p.1 in
     (a.0, a.1, a.2, search rules)
 
 pub returns : goal.returns

@@ -1,4 +1,4 @@
--- `outer::payloads::value` meets its contract. The laws `valuing` have a case for four bytes, whose number `u32_from_le_bytes` ensures, and one for any other length. Assumes nothing.
+-- `outer::payloads::value` meets its contract. The laws `valuing` have a case for four bytes, whose number `from_le_bytes` ensures (`number_4`), and one for any other length. Assumes nothing.
 use Rattle.outer.proofs.PayloadsCases.{valuing}
 use Rattle.outer.proofs.payloads.value.Goals as goal
 

@@ -8,4 +8,4 @@ returns-then-come-size c = search body_waits
 pub returns : goal.returns
 returns c =
     let p = c.requires in
-    body_ends _ _ _ _ _ _ _ _ c.length-size.ensures c.least-n.ensures c.if-come-size.false p.1 _ _ _ p.2 p.0 c.store_last.ensures c.place_of-place.ensures c.whole.ensures c.finished.ensures
+    body_ends _ _ _ _ _ _ _ _ c.length-size.ensures c.min-n.ensures c.if-come-size.false p.1 _ _ _ p.2 p.0 c.store_last.ensures c.place_of-place.ensures c.whole.ensures c.finished.ensures

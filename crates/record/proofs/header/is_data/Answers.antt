@@ -2,8 +2,8 @@
 use Rattle.record.proofs.Cases.{data-headers}
 use Rattle.record.proofs.header.is_data.Goals as goal
 
-pub returns-then-magic-u32_from_le_bytes : goal.returns-then-magic-u32_from_le_bytes
-returns-then-magic-u32_from_le_bytes c = search data-headers
+pub returns-then-magic-from_le_bytes : goal.returns-then-magic-from_le_bytes
+returns-then-magic-from_le_bytes c = search data-headers
 
 pub returns-then-version-ne-OUTER_VERSION : goal.returns-then-version-ne-OUTER_VERSION
 returns-then-version-ne-OUTER_VERSION c = search data-headers
