@@ -40,8 +40,8 @@ fn write_attach(output: &mut [u8], at: usize) -> Written
     )
 }
 
-#[tactic(auto, using(wire::proofs::NumberLaws::written))]
 // Writes ACK with sequence 0.
+#[tactic(auto, using(wire::proofs::NumberLaws::written))]
 fn write_ack(identity: Identity, window: u32, output: &mut [u8], at: usize) -> Written
     ensures { outer.outcome result output.new ≡ encode_record 4 identity.instance_id identity.epoch.0 0 (to_le 4 window) output.old at }
 {

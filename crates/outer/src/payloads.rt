@@ -46,8 +46,8 @@ pub fn credit_ok(bytes: u32) -> bool
     bytes <= OUTER_MAX_RECEIVE_WINDOW
 }
 
-#[tactic(auto, using(wire::proofs::NumberLaws::written))]
 // The four bytes of a value that is accepted.
+#[tactic(auto, using(wire::proofs::NumberLaws::written))]
 fn encoded(value: u32) -> EncodedPayload
     ensures { result ≡ accepted_encoding value }
 {

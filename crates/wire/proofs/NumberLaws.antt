@@ -67,6 +67,8 @@ read_4 bs e = all_bytes bs 3 e
 pub read_8 : (bs : List ℕ) → length bs ≡ 8 → from_le bs ≡ from_le_bytes w64 bs
 read_8 bs e = all_bytes bs 7 e
 
+pub ruleset reading = (at_part, read_2, read_4, read_8)
+
 pub number_4 : (bs : List ℕ) (v : ℕ) → length bs ≡ 4 → v ≡ from_le_bytes w32 bs → v ≡ from_le bs
 number_4 bs v l e = e ∙ sym (read_4 bs l)
 
@@ -107,5 +109,3 @@ pub length_to : (n v : ℕ) → length (to_le n v) ≡ n
 unfolding to_le
 length_to zero v = refl
 length_to (suc n) v = ap suc (length_to n (v / 256))
-
-pub ruleset reading = (at_part, read_2, read_4, read_8)

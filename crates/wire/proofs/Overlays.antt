@@ -1,4 +1,4 @@
--- A list laid over a part of another: a loop that copies, and copies side by side. Assumes nothing.
+-- A list laid over a part of another: copies side by side, copies that fit or not, and a write to a part of a slice. Assumes nothing.
 use Prim.Native.Nat.{ℕ, ◌+◌, ◌≤◌, ◌<◌}
 use mathlib.Core.Path.{◌≡◌, refl, sym, ap, ap₂, ◌∙◌}
 use mathlib.Core.List.{List, [], ◌++◌, append_assoc, append-nil}
@@ -66,8 +66,9 @@ pub copied_not : (d : List ℕ) (at : ℕ) (s : List ℕ) → length d < at + le
 unfolding copied
 copied_not d at s h = simp (lt-leb (at + length s) (length d) h)
 
--- a write of the library's to a part, of as many bytes as it has
-pub laid : (d : List ℕ) (at k : ℕ) (s : List ℕ) → k ≡ length s → put_mid at k d s ≡ overlay d at s
+-- a write to a part of a slice, of as many bytes as it has
+pub put_overlay : (d : List ℕ) (at k : ℕ) (s : List ℕ) → k ≡ length s → put_mid at k d s ≡ overlay d at s
 unfolding overlay
-laid d at k s e =
-    rw (e, drop-drop (length s) at d) refl
+put_overlay d at k s e = rw (e, drop-drop (length s) at d) refl
+
+pub ruleset copying = (copied_fits, copied_not, put_overlay)

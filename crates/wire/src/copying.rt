@@ -2,8 +2,8 @@
 ghost use Rattle.std.specs.Prelude.{◌≡◌};
 ghost use Rattle.wire.specs.Bytes.{copied};
 
-#[tactic(auto, using(crate::proofs::Overlays::copied_fits, crate::proofs::Overlays::copied_not, crate::proofs::Overlays::laid))]
 // Copies a source into the target from an index on. Where it does not fit nothing is copied.
+#[tactic(auto, using(crate::proofs::Overlays::copying))]
 pub fn copy_at(target: &mut [u8], at: usize, source: &[u8])
     ensures { target.new ≡ copied target.old at source.now }
 {

@@ -1,18 +1,6 @@
 // The fields of a header's 44 bytes, each read at its place.
-#![tactic(
-    auto,
-    using(crate::proofs::NumberLaws::reading),
-    unfolding(
-        crate::specs::Header::magic_of,
-        crate::specs::Header::version_of,
-        crate::specs::Header::type_of,
-        crate::specs::Header::flags_of,
-        crate::specs::Header::instance_of,
-        crate::specs::Header::epoch_of,
-        crate::specs::Header::sequence_of,
-        crate::specs::Header::length_of,
-    )
-)]
+#![tactic(auto, using(crate::proofs::NumberLaws::reading), unfolding(crate::specs::Header::magic_of, crate::specs::Header::version_of, crate::specs::Header::type_of, crate::specs::Header::flags_of, crate::specs::Header::instance_of, crate::specs::Header::epoch_of, crate::specs::Header::sequence_of, crate::specs::Header::length_of,))]
+
 ghost use Rattle.std.specs.Prelude.{◌≡◌, ◌+◌, ◌≤◌};
 ghost use Rattle.wire.specs.Bytes.{bytes_at};
 ghost use Rattle.wire.specs.Header.{magic_of, version_of, type_of, flags_of, instance_of, epoch_of, sequence_of, length_of};

@@ -4,9 +4,9 @@ ghost use Rattle.wire.specs.Bytes.{copied};
 
 use crate::copying::copy_at;
 
-#[tactic(auto, using(crate::proofs::PartLaws::copied_whole))]
 // The header with a part of a piece from an index on. Where it does not fit the header stays. A
 // whole header is answered by itself: the compiler then knows its size, and makes two moves of it.
+#[tactic(auto, using(crate::proofs::PartLaws::copied_whole))]
 pub fn filled(header: [u8; 44], at: usize, part: &[u8]) -> [u8; 44]
     ensures { result ≡ copied header at part.now }
 {
