@@ -3,7 +3,7 @@ use Prim.Native.Nat.{ℕ, ◌+◌, ◌-◌, ◌≤◌}
 use mathlib.Core.Path.{◌≡◌, refl, sym, ap, subst, ◌∙◌}
 use mathlib.Core.List.{List, [], ◌∷◌, ◌++◌, append_assoc, append-nil}
 use native.Mathlib.Omega.{arith}
-use lib.ListN.{length, set, replicate, take, drop, length-append}
+use lib.ListN.{length, set, replicate, take, drop, length-append, length-set, length-take, length-drop}
 use lib.Seq.{take_at, drop_at}
 use Rattle.std.proofs.lemmas.List.{drop-replicate}
 use lib.Dec.{lit<}
@@ -21,7 +21,30 @@ part_written a b at k m la lb =
     let n : k + m - k ≡ m = omega arith in
     rw (t, d, drop-replicate {X = ℕ} k (k + m) 0, n) (sym (append_assoc a b (replicate m 0)))
 
--- the parts of a header written one behind the other, and the room that is left behind the epoch and behind the sequence
+-- the room that is left behind the epoch, and behind the sequence
+length_written : (d : List ℕ) (at k : ℕ) (s : List ℕ) → at + k ≤ length d → length s ≡ k → length (put_mid at k d s) ≡ length d
+length_written d at k s h e = simp (length-append, length-take, length-drop) (omega arith)
+
+module _ (t : ℕ) (m v i e : List ℕ) (lm : length m ≡ 4) (lv : length v ≡ 2) (li : length i ≡ 16) (le : length e ≡ 8) where
+  length_as_far_as_epoch : length (put_mid 24 8 (put_mid 8 16 (set (put_mid 4 2 (m ++ replicate 40 0) v) 6 t) i) e) ≡ 44
+  length_as_far_as_epoch =
+      let z : List ℕ = replicate 40 0 in
+      let l₀ : length (m ++ z) ≡ 44 = simp length-append (omega arith) in
+      let l₁ : length (put_mid 4 2 (m ++ z) v) ≡ 44 = length_written (m ++ z) 4 2 v (omega arith) lv ∙ l₀ in
+      let l₂ : length (set (put_mid 4 2 (m ++ z) v) 6 t) ≡ 44 = length-set (put_mid 4 2 (m ++ z) v) 6 t ∙ l₁ in
+      let l₃ = length_written (set (put_mid 4 2 (m ++ z) v) 6 t) 8 16 i (omega arith) li ∙ l₂ in
+      length_written (put_mid 8 16 (set (put_mid 4 2 (m ++ z) v) 6 t) i) 24 8 e (omega arith) le ∙ l₃
+
+  pub room_behind_epoch : 40 ≤ length (put_mid 24 8 (put_mid 8 16 (set (put_mid 4 2 (m ++ replicate 40 0) v) 6 t) i) e)
+  room_behind_epoch = omega (arith, length_as_far_as_epoch)
+
+  pub room_behind_sequence : (s : List ℕ) → length s ≡ 8 → 44 ≤ length (put_mid 32 8 (put_mid 24 8 (put_mid 8 16 (set (put_mid 4 2 (m ++ replicate 40 0) v) 6 t) i) e) s)
+  room_behind_sequence s ls =
+      let h : List ℕ = put_mid 24 8 (put_mid 8 16 (set (put_mid 4 2 (m ++ replicate 40 0) v) 6 t) i) e in
+      let w : length h ≡ 44 = length_as_far_as_epoch in
+      omega (arith, length_written h 32 8 s (omega (arith, w)) ls ∙ w)
+
+-- the parts of a header written one behind the other
 abbrev begun : ℕ → List ℕ
 begun t = magic ++ (1 ∷ 0 ∷ t ∷ 0 ∷ [])
 
@@ -40,9 +63,6 @@ module _ (t epoch : ℕ) (m v i a e : List ℕ) (li : length i ≡ 16) (em : m �
   length_to_epoch : length ((begun t ++ i) ++ e) ≡ 32
   length_to_epoch = simp length-append (omega (arith, li, le))
 
-  pub room_behind_epoch : 40 ≤ length (put_mid 24 8 (put_mid 8 16 (set (put_mid 4 2 (m ++ replicate 40 0) v) 6 t) a) e)
-  room_behind_epoch = rw as_far_as_epoch (simp length-append (omega (arith, li, le)))
-
   module _ (seq : ℕ) (s : List ℕ) (es : s ≡ bytes_low_first 0 8 seq) where
     ls : length s ≡ 8
     ls = ap length es
@@ -52,9 +72,6 @@ module _ (t epoch : ℕ) (m v i a e : List ℕ) (li : length i ≡ 16) (em : m �
 
     length_to_sequence : length (((begun t ++ i) ++ e) ++ s) ≡ 40
     length_to_sequence = simp length-append (omega (arith, li, le, ls))
-
-    pub room_behind_sequence : 44 ≤ length (put_mid 32 8 (put_mid 24 8 (put_mid 8 16 (set (put_mid 4 2 (m ++ replicate 40 0) v) 6 t) a) e) s)
-    room_behind_sequence = rw as_far_as_sequence (simp length-append (omega (arith, li, le, ls)))
 
     pub header_written : (size : ℕ) (n : List ℕ) → n ≡ bytes_low_first 0 4 size
         → put_mid 40 4 (put_mid 32 8 (put_mid 24 8 (put_mid 8 16 (set (put_mid 4 2 (m ++ replicate 40 0) v) 6 t) a) e) s) n ≡ header_bytes t i epoch seq size
