@@ -6,6 +6,7 @@ use std::io;
 use wire::header::encode_header;
 use wire::{Epoch, Sequence};
 
+// What the decoder answers.
 fn decoded(header: [u8; 44]) -> Answer<Fields> {
     let answer = decode_outer_header(header);
     if answer.refusal.number == 0 {

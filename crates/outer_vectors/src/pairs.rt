@@ -8,6 +8,7 @@ use print::Hex;
 use std::{fmt, io};
 use wire::numbers::u32_to_le_bytes;
 
+// What an encoder answered.
 fn encoded(answer: EncodedPayload) -> Answer<Hex<[u8; 4]>> {
     if answer.refusal.number == 0 {
         Answer(Ok(Hex(answer.payload)))
@@ -16,6 +17,7 @@ fn encoded(answer: EncodedPayload) -> Answer<Hex<[u8; 4]>> {
     }
 }
 
+// What a decoder answered.
 fn decoded(answer: DecodedPayload) -> Answer<u32> {
     if answer.refusal.number == 0 {
         Answer(Ok(answer.value))
@@ -24,6 +26,7 @@ fn decoded(answer: DecodedPayload) -> Answer<u32> {
     }
 }
 
+// An encoder and its decoder.
 #[derive(Clone, Copy)]
 enum Pair {
     Ack,

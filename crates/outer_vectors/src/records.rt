@@ -16,6 +16,7 @@ impl fmt::Display for Next {
     }
 }
 
+// What the encoder answered.
 fn written(answer: Written) -> Answer<Next> {
     if answer.refusal.number == 0 {
         Answer(Ok(Next(answer.next)))

@@ -1,6 +1,9 @@
 // What both programs of worked vectors print: bytes in hexadecimal, and a record's fields.
 #![tactic(auto)]
 
+ghost use Rattle.std.specs.Prelude.{Some};
+ghost use Rattle.print.specs.Text.{hex, fields};
+
 use outer::OuterHeader;
 use std::convert::AsSlice;
 use std::fmt;
@@ -10,6 +13,8 @@ use std::fmt;
 pub struct Hex<T>(pub T);
 
 impl<T: AsSlice<u8>> fmt::Display for Hex<T> {
+    ghost output = { λ bytes. Some (hex (T.items bytes.0)) };
+
     fn fmt<W: fmt::Write>(&self, f: &mut fmt::Formatter<W>) -> fmt::Result {
         for byte in self.0.as_slice() {
             write!(f, "{byte:02X}")?;
@@ -23,6 +28,8 @@ impl<T: AsSlice<u8>> fmt::Display for Hex<T> {
 pub struct Fields(pub OuterHeader);
 
 impl fmt::Display for Fields {
+    ghost output = { λ shown. Some (fields shown.0) };
+
     fn fmt<W: fmt::Write>(&self, f: &mut fmt::Formatter<W>) -> fmt::Result {
         let header = &self.0;
         write!(

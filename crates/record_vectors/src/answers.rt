@@ -30,6 +30,7 @@ impl fmt::Display for Encoded {
     }
 }
 
+// What an encoder answered.
 pub fn written(answer: Written) -> Result<usize, Refusal> {
     if answer.refusal.number == 0 {
         Ok(answer.next)
@@ -38,7 +39,7 @@ pub fn written(answer: Written) -> Result<usize, Refusal> {
     }
 }
 
-// The record that a push completed, or none yet.
+// The record that a push completed, none yet, or the refusal.
 pub fn record_in(pushed: Pushed) -> Result<Option<Record>, Refusal> {
     if pushed.refusal.number != 0 {
         return Err(pushed.refusal);
@@ -49,6 +50,7 @@ pub fn record_in(pushed: Pushed) -> Result<Option<Record>, Refusal> {
     Ok(None)
 }
 
+// The number that a record holds, where it holds one.
 fn number(answer: Value) -> Option<u32> {
     if answer.present {
         Some(answer.value)
@@ -57,6 +59,7 @@ fn number(answer: Value) -> Option<u32> {
     }
 }
 
+// The error code that a record holds, where it holds one.
 fn error_code(answer: ErrorLookup) -> Option<ErrorCode> {
     match answer {
         ErrorLookup::Known(code) => Some(code),
@@ -105,6 +108,7 @@ impl<'a> fmt::Display for Complete<'a> {
     }
 }
 
+// The fields of a record as its header holds them.
 fn header_of(record: Record) -> OuterHeader {
     let instance_id = record.instance_id;
     OuterHeader {
