@@ -1,20 +1,23 @@
 // Worked byte strings of the plain layer, a line for each call: what was called, and what came.
 #![tactic(auto)]
 
+mod answer;
 mod headers;
 mod pairs;
 mod records;
 
-fn main() {
-    records::reset();
-    headers::places();
-    headers::types();
-    records::lengths();
-    records::positions();
-    records::limits();
-    headers::wrong();
-    headers::lengths();
-    pairs::windows();
-    pairs::credits();
-    pairs::lengths();
+use std::io;
+
+fn main(rt: HostRuntime) -> io::Result<()> {
+    records::reset(&rt)?;
+    headers::places(&rt)?;
+    headers::types(&rt)?;
+    records::lengths(&rt)?;
+    records::positions(&rt)?;
+    records::limits(&rt)?;
+    headers::wrong(&rt)?;
+    headers::lengths(&rt)?;
+    pairs::windows(&rt)?;
+    pairs::credits(&rt)?;
+    pairs::lengths(&rt)
 }

@@ -1,80 +1,100 @@
 // The ack and credit payload pairs: the bytes and values, and refusals 27, 28 and 29.
+use crate::answer::Answer;
 use outer::payloads::{
     DecodedPayload, EncodedPayload, decode_ack_payload, decode_credit_payload, encode_ack_payload,
     encode_credit_payload,
 };
+use print::Hex;
+use std::{fmt, io};
 
-// The end of a line: the four bytes, or the refusal.
-fn encoded(answer: EncodedPayload) {
-    let payload = answer.payload;
-    print::text(b": ");
+// What an encoder answered.
+fn encoded(answer: EncodedPayload) -> Answer<Hex<[u8; 4]>> {
     if answer.refusal.number == 0 {
-        print::hex(&payload);
+        Answer(Ok(Hex(answer.payload)))
     } else {
-        print::refusal(answer.refusal.number);
+        Answer(Err(answer.refusal))
     }
-    print::end_line();
 }
 
-// The end of a line: the value, or the refusal.
-fn decoded(answer: DecodedPayload) {
-    print::text(b": ");
+// What a decoder answered.
+fn decoded(answer: DecodedPayload) -> Answer<u32> {
     if answer.refusal.number == 0 {
-        print::number(answer.value as u64);
+        Answer(Ok(answer.value))
     } else {
-        print::refusal(answer.refusal.number);
+        Answer(Err(answer.refusal))
     }
-    print::end_line();
 }
 
-fn decode_ack(payload: &[u8]) {
-    print::text(b"decode_ack_payload ");
-    print::hex(payload);
-    decoded(decode_ack_payload(payload));
+// An encoder and its decoder.
+#[derive(Clone, Copy)]
+enum Pair {
+    Ack,
+    Credit,
 }
 
-fn decode_credit(payload: &[u8]) {
-    print::text(b"decode_credit_payload ");
-    print::hex(payload);
-    decoded(decode_credit_payload(payload));
+impl fmt::Display for Pair {
+    fn fmt<W: fmt::Write>(&self, f: &mut fmt::Formatter<W>) -> fmt::Result {
+        match self {
+            Pair::Ack => write!(f, "ack"),
+            Pair::Credit => write!(f, "credit"),
+        }
+    }
 }
 
-// A window encoded, and its four bytes decoded.
-fn ack(window: u32) {
-    print::labelled(b"encode_ack_payload ", window as u64);
-    encoded(encode_ack_payload(window));
-    decode_ack(&window.to_le_bytes());
-}
+impl Pair {
+    fn encode(self, value: u32) -> Answer<Hex<[u8; 4]>> {
+        encoded(match self {
+            Pair::Ack => encode_ack_payload(value),
+            Pair::Credit => encode_credit_payload(value),
+        })
+    }
 
-// A credit encoded, and its four bytes decoded.
-fn credit(bytes: u32) {
-    print::labelled(b"encode_credit_payload ", bytes as u64);
-    encoded(encode_credit_payload(bytes));
-    decode_credit(&bytes.to_le_bytes());
+    fn decode(self, payload: &[u8]) -> Answer<u32> {
+        decoded(match self {
+            Pair::Ack => decode_ack_payload(payload),
+            Pair::Credit => decode_credit_payload(payload),
+        })
+    }
+
+    // A payload's bytes, and what they decode to.
+    fn back(self, rt: &impl Print, payload: &[u8]) -> io::Result<()> {
+        println!(rt;
+            "decode_{self}_payload {}: {}",
+            Hex(payload),
+            self.decode(payload)
+        )
+    }
+
+    // A value encoded, and its four bytes decoded.
+    fn there_and_back(self, rt: &impl Print, value: u32) -> io::Result<()> {
+        println!(rt; "encode_{self}_payload {value}: {}", self.encode(value))?;
+        self.back(rt, &value.to_le_bytes())
+    }
 }
 
 // Both ends of a window's range, and the next beyond each.
-pub fn windows() {
-    ack(65535);
-    ack(65536);
-    ack(4194314);
-    ack(4194315);
+pub fn windows(rt: &impl Print) -> io::Result<()> {
+    for window in [65535, 65536, 4194314, 4194315] {
+        Pair::Ack.there_and_back(rt, window)?;
+    }
+    Ok(())
 }
 
 // The same of a credit.
-pub fn credits() {
-    credit(0);
-    credit(1);
-    credit(4194314);
-    credit(4194315);
+pub fn credits(rt: &impl Print) -> io::Result<()> {
+    for bytes in [0, 1, 4194314, 4194315] {
+        Pair::Credit.there_and_back(rt, bytes)?;
+    }
+    Ok(())
 }
 
 // Payloads of 3, 4 and 5 bytes to both decoders.
-pub fn lengths() {
-    decode_ack(b"\x00\x00\x01");
-    decode_ack(b"\x00\x00\x01\x00");
-    decode_ack(b"\x00\x00\x01\x00\x00");
-    decode_credit(b"\x00\x00\x01");
-    decode_credit(b"\x00\x00\x01\x00");
-    decode_credit(b"\x00\x00\x01\x00\x00");
+pub fn lengths(rt: &impl Print) -> io::Result<()> {
+    let payload = [0u8, 0, 1, 0, 0];
+    for pair in [Pair::Ack, Pair::Credit] {
+        for count in 3..6 {
+            pair.back(rt, &payload[..count])?;
+        }
+    }
+    Ok(())
 }

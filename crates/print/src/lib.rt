@@ -1,60 +1,45 @@
-// Text, numbers and bytes on standard output. Of what is written no contract can speak, so these
-// functions say nothing in an `ensures`; each is proved safe and to end.
+// What both programs of worked vectors print: bytes in hexadecimal, and a record's fields.
 #![tactic(auto)]
 
-ghost use Rattle.std.specs.Prelude.{◌<◌};
+ghost use Rattle.std.specs.Prelude.{Some};
+ghost use Rattle.print.specs.Text.{hex, fields};
 
-// Internal: only writes to standard output.
-pub fn text(bytes: &[u8]) {
-    io::write_all(1, bytes);
-}
+use outer::OuterHeader;
+use std::convert::AsSlice;
+use std::fmt;
 
-// Internal: only writes to standard output.
-pub fn number(n: u64) {
-    io::print_decimal(1, n);
-}
+// Bytes in upper-case hexadecimal, two digits for each.
+#[derive(Clone, Copy)]
+pub struct Hex<T>(pub T);
 
-// A label and the number after it. Internal: only writes to standard output.
-pub fn labelled(label: &[u8], n: u64) {
-    text(label);
-    number(n);
-}
+impl<T: AsSlice<u8>> fmt::Display for Hex<T> {
+    ghost output = { λ bytes. Some (hex (T.items bytes.0)) };
 
-// Bytes in upper-case hexadecimal. Internal: only writes to standard output.
-pub fn hex(bytes: &[u8]) {
-    let mut i: usize = 0;
-    while i < bytes.len() {
-        hex_byte(bytes[i]);
-        i += 1;
+    fn fmt<W: fmt::Write>(&self, f: &mut fmt::Formatter<W>) -> fmt::Result {
+        for byte in self.0.as_slice() {
+            write!(f, "{byte:02X}")?;
+        }
+        Ok(())
     }
 }
 
-fn hex_byte(byte: u8) {
-    let pair = [digit(byte / 16), digit(byte % 16)];
-    text(&pair);
-}
+// Type, instance, epoch, sequence and length of a record, as its header holds them.
+#[derive(Clone, Copy)]
+pub struct Fields(pub OuterHeader);
 
-fn digit(n: u8) -> u8
-    requires { n < 16 }
-{
-    if n < 10 { b'0' + n } else { b'A' + (n - 10) }
-}
+impl fmt::Display for Fields {
+    ghost output = { λ shown. Some (fields shown.0) };
 
-// Instance, epoch, sequence and length of a record. Internal: only writes to standard output.
-pub fn fields(instance_id: &[u8], epoch: u64, sequence: u64, length: usize) {
-    text(b" instance ");
-    hex(instance_id);
-    labelled(b" epoch ", epoch);
-    labelled(b" sequence ", sequence);
-    labelled(b" length ", length as u64);
-}
-
-// Internal: only writes to standard output.
-pub fn refusal(number: u64) {
-    labelled(b"refusal ", number);
-}
-
-// Internal: only writes to standard output.
-pub fn end_line() {
-    text(b"\n");
+    fn fmt<W: fmt::Write>(&self, f: &mut fmt::Formatter<W>) -> fmt::Result {
+        let header = &self.0;
+        write!(
+            f,
+            "type {} instance {} epoch {} sequence {} length {}",
+            header.record_type,
+            Hex(header.instance_id),
+            header.epoch.0,
+            header.sequence.0,
+            header.length
+        )
+    }
 }

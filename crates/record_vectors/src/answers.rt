@@ -1,93 +1,147 @@
 // What a call answered, at the end of a line.
-use outer::Written;
-use parser::{Place, Pushed, RecordParser, payload};
-use record::types::ErrorLookup;
+use outer::{OuterHeader, Written};
+use parser::{Pushed, RecordParser, payload};
+use print::{Fields, Hex};
+use record::types::{ErrorCode, ErrorLookup};
 use record::{Record, Value};
+use std::fmt;
 use wire::Refusal;
 
 // A refusal's number and its first two figures.
-fn refusal(refusal: Refusal) {
-    print::refusal(refusal.number);
-    print::labelled(b" a ", refusal.a);
-    print::labelled(b" b ", refusal.b);
-}
+#[derive(Clone, Copy)]
+struct Refused(Refusal);
 
-// What the encoder answered.
-pub fn written(written: Written) {
-    if written.refusal.number == 0 {
-        print::labelled(b"next ", written.next as u64);
-    } else {
-        refusal(written.refusal);
+impl fmt::Display for Refused {
+    fn fmt<W: fmt::Write>(&self, f: &mut fmt::Formatter<W>) -> fmt::Result {
+        write!(f, "refusal {} a {} b {}", self.0.number, self.0.a, self.0.b)
     }
-    print::end_line();
 }
 
-// How many bytes the parser still needs, and how many it holds.
-fn counts(parser: RecordParser) {
-    print::labelled(b" needed ", parser.needed().count as u64);
-    print::labelled(b" buffered ", parser.buffered().count as u64);
+// The position after a record, or the refusal.
+#[derive(Clone, Copy)]
+pub struct Encoded(pub Result<usize, Refusal>);
+
+impl fmt::Display for Encoded {
+    fn fmt<W: fmt::Write>(&self, f: &mut fmt::Formatter<W>) -> fmt::Result {
+        match self.0 {
+            Ok(next) => write!(f, "next {next}"),
+            Err(refusal) => write!(f, "{}", Refused(refusal)),
+        }
+    }
 }
 
-// What a push answered. `taken` counts the bytes that it and the pushes before it took.
-pub fn pushed<'a>(pushed: Pushed, taken: u64, piece: &'a [u8], stage: &'a [u8]) {
-    print::labelled(b"taken ", taken);
-    print::text(b" ");
-    let place = pushed.place;
+// What an encoder answered.
+pub fn written(answer: Written) -> Result<usize, Refusal> {
+    if answer.refusal.number == 0 {
+        Ok(answer.next)
+    } else {
+        Err(answer.refusal)
+    }
+}
+
+// The record that a push completed, none yet, or the refusal.
+pub fn record_in(pushed: Pushed) -> Result<Option<Record>, Refusal> {
     if pushed.refusal.number != 0 {
-        refusal(pushed.refusal);
-    } else if pushed.complete {
-        complete(pushed.record, place, piece, stage);
+        return Err(pushed.refusal);
+    }
+    if pushed.complete {
+        return Ok(Some(pushed.record));
+    }
+    Ok(None)
+}
+
+// The number that a record holds, where it holds one.
+fn number(answer: Value) -> Option<u32> {
+    if answer.present {
+        Some(answer.value)
     } else {
-        print::text(b"no record");
+        None
     }
-    counts(pushed.parser);
-    print::end_line();
 }
 
-// A record's fields, and what its payload holds.
-fn complete<'a>(record: Record, place: Place, piece: &'a [u8], stage: &'a [u8]) {
-    let record_type = record.record_type;
-    print::labelled(b"type ", record_type.code() as u64);
+// The error code that a record holds, where it holds one.
+fn error_code(answer: ErrorLookup) -> Option<ErrorCode> {
+    match answer {
+        ErrorLookup::Known(code) => Some(code),
+        ErrorLookup::Unknown => None,
+    }
+}
+
+// How many bytes a parser still needs, and how many it holds.
+#[derive(Clone, Copy)]
+pub struct Counts(pub RecordParser);
+
+impl fmt::Display for Counts {
+    fn fmt<W: fmt::Write>(&self, f: &mut fmt::Formatter<W>) -> fmt::Result {
+        let parser = self.0;
+        let needed = parser.needed().count;
+        let buffered = parser.buffered().count;
+        write!(f, "needed {needed} buffered {buffered}")
+    }
+}
+
+// A complete record: its fields, the number in its payload, and the payload's first four bytes.
+#[derive(Clone, Copy)]
+struct Complete<'a> {
+    record: Record,
+    payload: &'a [u8],
+}
+
+impl<'a> fmt::Display for Complete<'a> {
+    fn fmt<W: fmt::Write>(&self, f: &mut fmt::Formatter<W>) -> fmt::Result {
+        let record = self.record;
+        let payload = self.payload;
+        write!(f, "{}", Fields(header_of(record)))?;
+        if let Some(window) = number(record.window(payload)) {
+            write!(f, " window {window}")?;
+        }
+        if let Some(credit) = number(record.credit(payload)) {
+            write!(f, " credit {credit}")?;
+        }
+        if let Some(code) = error_code(record.error_code(payload)) {
+            write!(f, " error {}", code.code())?;
+        }
+        if !payload.is_empty() {
+            write!(f, " payload {}", Hex(payload.get(..4).unwrap_or(payload)))?;
+        }
+        Ok(())
+    }
+}
+
+// The fields of a record as its header holds them.
+fn header_of(record: Record) -> OuterHeader {
     let instance_id = record.instance_id;
-    let length = record.length;
-    print::fields(&instance_id, record.epoch.0, record.sequence.0, length);
-    values(record, payload(piece, stage, place, length));
-}
-
-// The numbers in a record's payload, and the payload's first four bytes.
-fn values(record: Record, bytes: &[u8]) {
-    number(b" window ", record.window(bytes));
-    number(b" credit ", record.credit(bytes));
-    error_code(record.error_code(bytes));
-    first(bytes);
-}
-
-// A payload's first four bytes where it has any.
-fn first(bytes: &[u8]) {
-    if bytes.len() != 0 {
-        print::text(b" payload ");
-        print::hex(start(bytes));
+    OuterHeader {
+        record_type: record.record_type.code(),
+        instance_id,
+        epoch: record.epoch,
+        sequence: record.sequence,
+        length: record.length,
     }
 }
 
-// A number where there is one.
-fn number(label: &[u8], value: Value) {
-    if value.present {
-        print::labelled(label, value.value as u64);
-    }
+// What a push answered, and its piece and stage. `taken` counts the bytes that it and the pushes
+// before it took.
+#[derive(Clone, Copy)]
+pub struct Answer<'a> {
+    pub pushed: Pushed,
+    pub taken: usize,
+    pub piece: &'a [u8],
+    pub stage: &'a [u8],
 }
 
-// An error code where there is one.
-fn error_code(found: ErrorLookup) {
-    if let ErrorLookup::Known(code) = found {
-        print::labelled(b" error ", code.code() as u64);
+impl<'a> fmt::Display for Answer<'a> {
+    fn fmt<W: fmt::Write>(&self, f: &mut fmt::Formatter<W>) -> fmt::Result {
+        let place = self.pushed.place;
+        write!(f, "taken {} ", self.taken)?;
+        match record_in(self.pushed) {
+            Ok(Some(record)) => {
+                let payload = payload(self.piece, self.stage, place, record.length);
+                write!(f, "{}", Complete { record, payload })?;
+            }
+            Ok(None) => write!(f, "no record")?,
+            Err(refusal) => write!(f, "{}", Refused(refusal))?,
+        }
+        write!(f, " {}", Counts(self.pushed.parser))
     }
-}
-
-// At most the first four bytes.
-fn start<'a>(bytes: &'a [u8]) -> &'a [u8] {
-    if bytes.len() < 4 {
-        return bytes;
-    }
-    &bytes[0..4]
 }

@@ -1,72 +1,82 @@
 // Headers with a wrong field: 1, 2, 3, 4 and 6.
-use crate::records::{Fields, in_pieces, there_and_back};
+use crate::records::{Case, in_pieces};
+use print::Hex;
 use record::types::RecordType;
+use std::io;
 use wire::header::encode_header;
 use wire::{Epoch, Sequence};
 
-// The header of a RESET with another byte at one or two indexes.
-fn changed(index: usize, byte: u8, second: usize, other: u8) {
+// The header of a RESET with other bytes at some indexes.
+fn changed(changes: &[(usize, u8)]) -> [u8; 44] {
     let mut header = encode_header(3, [0x11u8; 16], Epoch(7), Sequence(0), 0);
-    if index < 44 {
-        header[index] = byte;
+    for (index, byte) in changes {
+        if let Some(place) = header.get_mut(*index) {
+            *place = *byte;
+        }
     }
-    if second < 44 {
-        header[second] = other;
-    }
-    shown(&header);
-}
-
-// A header to a parser in pieces of seven bytes.
-fn shown(header: &[u8; 44]) {
-    print::text(b"push ");
-    print::hex(header);
-    in_pieces(header, 7);
+    header
 }
 
 // Each byte of magic and version, unknown types, flags. Where two fields are wrong the first
 // counts: an unknown type before the flags, the flags before the length.
-pub fn wrong() {
-    changed(0, 0x4F, 44, 0);
-    changed(1, 0x57, 44, 0);
-    changed(2, 0x59, 44, 0);
-    changed(3, 0x54, 44, 0);
-    changed(4, 2, 44, 0);
-    changed(5, 1, 44, 0);
-    changed(6, 0, 44, 0);
-    changed(6, 10, 44, 0);
-    changed(6, 255, 44, 0);
-    changed(7, 1, 44, 0);
-    changed(7, 128, 44, 0);
-    changed(3, 0x54, 4, 2);
-    changed(4, 2, 6, 10);
-    changed(6, 10, 7, 1);
-    changed(7, 1, 40, 1);
-    changed(43, 1, 44, 0);
+pub fn wrong(rt: &impl Print) -> io::Result<()> {
+    let cases: [&[(usize, u8)]; 16] = [
+        &[(0, 0x4F)],
+        &[(1, 0x57)],
+        &[(2, 0x59)],
+        &[(3, 0x54)],
+        &[(4, 2)],
+        &[(5, 1)],
+        &[(6, 0)],
+        &[(6, 10)],
+        &[(6, 255)],
+        &[(7, 1)],
+        &[(7, 128)],
+        &[(3, 0x54), (4, 2)],
+        &[(4, 2), (6, 10)],
+        &[(6, 10), (7, 1)],
+        &[(7, 1), (40, 1)],
+        &[(43, 1)],
+    ];
+    for changes in cases {
+        let header = changed(changes);
+        print!(rt; "push {}", Hex(header))?;
+        in_pieces(rt, &header, 7)?;
+    }
+    Ok(())
 }
 
-// A record whose instance is zero but for its last byte, with a payload.
-fn numbered(record_type: RecordType, last: u8, epoch: u64, sequence: u64, payload: &[u8]) {
+// A record whose instance is zero but for its last byte.
+fn identity(
+    record_type: RecordType,
+    last: u8,
+    epoch: u64,
+    sequence: u64,
+    payload: &[u8],
+) -> Case<'_> {
     let mut instance_id = [0u8; 16];
     instance_id[15] = last;
-    let fields = Fields {
+    Case {
+        record_type,
         instance_id,
         epoch: Epoch(epoch),
         sequence: Sequence(sequence),
-    };
-    there_and_back(record_type, fields, payload, 80);
+        payload,
+    }
 }
 
 // Bootstrap records with one field that is not zero: the last byte of the instance, the epoch, the
 // sequence.
-fn identity(record_type: RecordType, payload: &[u8]) {
-    numbered(record_type, 1, 0, 0, payload);
-    numbered(record_type, 0, 1, 0, payload);
-    numbered(record_type, 0, 0, 1, payload);
+fn bootstrap(rt: &impl Print, record_type: RecordType, payload: &[u8]) -> io::Result<()> {
+    for (last, epoch, sequence) in [(1, 0, 0), (0, 1, 0), (0, 0, 1)] {
+        identity(record_type, last, epoch, sequence, payload).there_and_back(rt, 80)?;
+    }
+    Ok(())
 }
 
 // Types 1 and 2; then a RESET whose fields are all zero, which the record layer accepts.
-pub fn identities() {
-    identity(RecordType::GuestAttach, b"");
-    identity(RecordType::HostAttach, &[0x33u8; 32]);
-    numbered(RecordType::Reset, 0, 0, 0, b"");
+pub fn identities(rt: &impl Print) -> io::Result<()> {
+    bootstrap(rt, RecordType::GuestAttach, b"")?;
+    bootstrap(rt, RecordType::HostAttach, &[0x33u8; 32])?;
+    identity(RecordType::Reset, 0, 0, 0, b"").there_and_back(rt, 80)
 }

@@ -1,58 +1,60 @@
 // For each type the payload lengths that it allows and their neighbours; others give 5.
 ghost use Rattle.std.specs.Prelude.{◌≤◌};
 
-use crate::records::{fields_of, there_and_back};
+use crate::records::Case;
 use record::types::RecordType;
-
-// A record of a type with so many payload bytes, all the same.
-fn filled(record_type: RecordType, byte: u8, count: usize, n: usize)
-    requires { (count ≤ 65537) × (1 ≤ n) }
-{
-    let payload = [byte; 65537];
-    there_and_back(record_type, fields_of(record_type), &payload[0..count], n);
-}
+use std::io;
 
 // A type without payload.
-fn empty(record_type: RecordType) {
-    filled(record_type, 0x55, 0, 7);
-    filled(record_type, 0x55, 1, 7);
+fn empty(rt: &impl Print, record_type: RecordType) -> io::Result<()> {
+    Case::new(record_type, b"").there_and_back(rt, 7)?;
+    Case::new(record_type, b"\x55").there_and_back(rt, 7)
 }
 
 // A type with a number.
-fn four(record_type: RecordType, payload: [u8; 5]) {
-    there_and_back(record_type, fields_of(record_type), &payload[0..3], 7);
-    there_and_back(record_type, fields_of(record_type), &payload[0..4], 7);
-    there_and_back(record_type, fields_of(record_type), &payload, 7);
+fn four(rt: &impl Print, record_type: RecordType, payload: [u8; 5]) -> io::Result<()> {
+    for count in 3..6 {
+        Case::new(record_type, &payload[..count]).there_and_back(rt, 7)?;
+    }
+    Ok(())
 }
 
 // A capability of 32 bytes.
-fn capability() {
-    filled(RecordType::HostAttach, 0x33, 31, 50);
-    filled(RecordType::HostAttach, 0x33, 32, 50);
-    filled(RecordType::HostAttach, 0x33, 33, 50);
+fn capability(rt: &impl Print) -> io::Result<()> {
+    let payload = [0x33u8; 33];
+    for count in 31..34 {
+        Case::new(RecordType::HostAttach, &payload[..count]).there_and_back(rt, 50)?;
+    }
+    Ok(())
 }
 
 // M4: no DATA is empty; one of 65,536 bytes and one of one more. A long payload comes in several
 // pieces, then whole in one.
-fn data() {
-    filled(RecordType::Data, 0x55, 0, 65581);
-    filled(RecordType::Data, 0x55, 1, 1);
-    filled(RecordType::Data, 0x55, 2, 45);
-    filled(RecordType::Data, 0x55, 65535, 4096);
-    filled(RecordType::Data, 0x55, 65536, 65536);
-    filled(RecordType::Data, 0x55, 65537, 65536);
-    filled(RecordType::Data, 0x55, 65536, 65580);
-    filled(RecordType::Data, 0x55, 65537, 65580);
+fn data(rt: &impl Print) -> io::Result<()> {
+    let payload = [0x55u8; 65537];
+    for (count, n) in [
+        (0, 65581),
+        (1, 1),
+        (2, 45),
+        (65535, 4096),
+        (65536, 65536),
+        (65537, 65536),
+        (65536, 65580),
+        (65537, 65580),
+    ] {
+        Case::new(RecordType::Data, &payload[..count]).there_and_back(rt, n)?;
+    }
+    Ok(())
 }
 
-pub fn every_type() {
-    empty(RecordType::GuestAttach);
-    capability();
-    empty(RecordType::Reset);
-    four(RecordType::Ack, [0u8, 0, 1, 0, 0]);
-    data();
-    empty(RecordType::Wait);
-    empty(RecordType::Ready);
-    four(RecordType::Error, [1u8, 0, 0, 0, 0]);
-    four(RecordType::Credit, [1u8, 0, 0, 0, 0]);
+pub fn every_type(rt: &impl Print) -> io::Result<()> {
+    empty(rt, RecordType::GuestAttach)?;
+    capability(rt)?;
+    empty(rt, RecordType::Reset)?;
+    four(rt, RecordType::Ack, [0u8, 0, 1, 0, 0])?;
+    data(rt)?;
+    empty(rt, RecordType::Wait)?;
+    empty(rt, RecordType::Ready)?;
+    four(rt, RecordType::Error, [1u8, 0, 0, 0, 0])?;
+    four(rt, RecordType::Credit, [1u8, 0, 0, 0, 0])
 }

@@ -8,13 +8,15 @@ mod records;
 mod streams;
 mod values;
 
-fn main() {
-    lengths::every_type();
-    values::windows();
-    values::credits();
-    values::errors();
-    headers::wrong();
-    headers::identities();
-    streams::all_ones(&mut [0xAAu8; 65536]);
-    streams::two_records(&mut [0xAAu8; 65536]);
+use std::io;
+
+fn main(rt: HostRuntime) -> io::Result<()> {
+    lengths::every_type(&rt)?;
+    values::windows(&rt)?;
+    values::credits(&rt)?;
+    values::errors(&rt)?;
+    headers::wrong(&rt)?;
+    headers::identities(&rt)?;
+    streams::all_ones(&rt)?;
+    streams::two_records(&rt)
 }

@@ -1,136 +1,130 @@
 // One record through the encoder and through a parser.
 ghost use Rattle.std.specs.Prelude.{◌≤◌};
 
-use crate::answers;
-use outer::{Written, put_record};
-use parser::{RecordParser, push};
+use crate::answers::{Answer, Counts, Encoded, record_in, written};
+use outer::{OuterHeader, put_record};
+use parser::RecordParser;
+use parser::push::push;
+use print::{Fields, Hex};
 use record::codec::encode_record;
 use record::types::RecordType;
+use std::{fmt, io};
 use wire::header::encode_header;
-use wire::{Epoch, Sequence};
+use wire::{Epoch, Refusal, Sequence};
 
-// Instance, epoch and sequence of a record.
+// A record to encode.
 #[derive(Clone, Copy)]
-pub struct Fields {
+pub struct Case<'a> {
+    pub record_type: RecordType,
     pub instance_id: [u8; 16],
     pub epoch: Epoch,
     pub sequence: Sequence,
+    pub payload: &'a [u8],
 }
 
-// The fields that a record of a type may carry.
-pub fn fields_of(record_type: RecordType) -> Fields {
-    if record_type.is_bootstrap() {
-        return Fields {
-            instance_id: [0u8; 16],
-            epoch: Epoch(0),
-            sequence: Sequence(0),
+// Its fields, and a payload of four bytes.
+impl<'a> fmt::Display for Case<'a> {
+    fn fmt<W: fmt::Write>(&self, f: &mut fmt::Formatter<W>) -> fmt::Result {
+        let header = OuterHeader {
+            record_type: self.record_type.code(),
+            instance_id: self.instance_id,
+            epoch: self.epoch,
+            sequence: self.sequence,
+            length: self.payload.len(),
         };
-    }
-    Fields {
-        instance_id: [0x11u8; 16],
-        epoch: Epoch(7),
-        sequence: Sequence(1),
-    }
-}
-
-// The fields of a record, and a payload of four bytes.
-fn title(name: &[u8], record_type: RecordType, fields: Fields, payload: &[u8]) {
-    let instance_id = fields.instance_id;
-    print::text(name);
-    print::labelled(b" type ", record_type.code() as u64);
-    print::fields(
-        &instance_id,
-        fields.epoch.0,
-        fields.sequence.0,
-        payload.len(),
-    );
-    if payload.len() == 4 {
-        print::text(b" payload ");
-        print::hex(payload);
-    }
-}
-
-// A record to the encoder, then to a parser in pieces of `n` bytes.
-pub fn there_and_back(record_type: RecordType, fields: Fields, payload: &[u8], n: usize)
-    requires { 1 ≤ n }
-{
-    let mut output = [0u8; 65581];
-    let end = encoded(record_type, fields, payload, &mut output).next;
-    if end < 65582 {
-        title(b"push", record_type, fields, payload);
-        in_pieces(&output[0..end], n);
-    }
-}
-
-// What the encoder answers, on a line; and the record's bytes. Where the encoder refuses it, they
-// are put together unchecked.
-fn encoded(record_type: RecordType, fields: Fields, payload: &[u8], output: &mut [u8]) -> Written {
-    let instance_id = fields.instance_id;
-    let epoch = fields.epoch;
-    let sequence = fields.sequence;
-    title(b"encode_record", record_type, fields, payload);
-    print::text(b": ");
-    let written = encode_record(
-        record_type,
-        instance_id,
-        epoch,
-        sequence,
-        payload,
-        output,
-        0,
-    );
-    answers::written(written);
-    if written.refusal.number == 0 {
-        return written;
-    }
-    let length = length_of(payload);
-    let header = encode_header(record_type.code(), instance_id, epoch, sequence, length);
-    put_record(header, payload, output, 0)
-}
-
-// A payload's length as the header holds it.
-fn length_of(payload: &[u8]) -> u32 {
-    let n = payload.len();
-    if n < 4294967296 { n as u32 } else { 4294967295 }
-}
-
-// Bytes in pieces of `n` to a new parser, on a line.
-pub fn in_pieces(bytes: &[u8], n: usize)
-    requires { 1 ≤ n }
-{
-    print::labelled(b" in pieces of ", n as u64);
-    print::text(b": ");
-    push_all(bytes, n, &mut [0xAAu8; 65536]);
-}
-
-// Whether a push is the last: a record is complete or refused, or no bytes are left.
-fn is_last(complete: bool, number: u64, left: usize) -> bool {
-    if complete {
-        return true;
-    }
-    if number != 0 {
-        return true;
-    }
-    left == 0
-}
-
-// Bytes pushed to a new parser in pieces of `n`, until a record is complete or refused.
-fn push_all(bytes: &[u8], n: usize, stage: &mut [u8])
-    requires { 1 ≤ n }
-{
-    let mut parser = RecordParser::new();
-    let mut taken: u64 = 0;
-    let mut at: usize = 0;
-    while at < bytes.len() {
-        let end = at + n.min(bytes.len() - at);
-        let piece = &bytes[at..end];
-        let pushed = push::push(parser, piece, stage);
-        taken = std::num::wrapping_add_u64(taken, pushed.consumed as u64);
-        if is_last(pushed.complete, pushed.refusal.number, bytes.len() - end) {
-            answers::pushed(pushed, taken, piece, stage);
-            return;
+        write!(f, "{}", Fields(header))?;
+        if self.payload.len() == 4 {
+            write!(f, " payload {}", Hex(self.payload))?;
         }
-        parser = pushed.parser;
-        at = end;
+        Ok(())
     }
+}
+
+impl<'a> Case<'a> {
+    // With the fields that a record of its type may carry.
+    pub fn new(record_type: RecordType, payload: &'a [u8]) -> Case<'a> {
+        let (byte, epoch, sequence) = if record_type.is_bootstrap() {
+            (0, 0, 0)
+        } else {
+            (0x11, 7, 1)
+        };
+        Case {
+            record_type,
+            instance_id: [byte; 16],
+            epoch: Epoch(epoch),
+            sequence: Sequence(sequence),
+            payload,
+        }
+    }
+
+    pub fn encode(self, output: &mut [u8], at: usize) -> Result<usize, Refusal> {
+        written(encode_record(
+            self.record_type,
+            self.instance_id,
+            self.epoch,
+            self.sequence,
+            self.payload,
+            output,
+            at,
+        ))
+    }
+
+    // The record's bytes put together unchecked.
+    fn put(self, output: &mut [u8]) -> Result<usize, Refusal> {
+        let header = encode_header(
+            self.record_type.code(),
+            self.instance_id,
+            self.epoch,
+            self.sequence,
+            u32::try_from(self.payload.len()).unwrap_or(u32::MAX),
+        );
+        written(put_record(header, self.payload, output, 0))
+    }
+
+    // The record to the encoder, then to a parser in pieces of `n` bytes. What the encoder refuses
+    // goes to the parser unchecked.
+    pub fn there_and_back(self, rt: &impl Print, n: usize) -> io::Result<()>
+        requires { 1 ≤ n }
+    {
+        let mut output = [0u8; 65581];
+        let encoded = self.encode(&mut output, 0);
+        println!(rt; "encode_record {self}: {}", Encoded(encoded))?;
+        let end = match encoded {
+            Ok(end) => end,
+            Err(_) => self.put(&mut output).unwrap_or(0),
+        };
+        if let Some(bytes) = output.get(..end) {
+            print!(rt; "push {self}")?;
+            in_pieces(rt, bytes, n)?;
+        }
+        Ok(())
+    }
+}
+
+// Bytes in pieces of `n` to a new parser until a record is complete or refused, on a line.
+pub fn in_pieces(rt: &impl Print, bytes: &[u8], n: usize) -> io::Result<()>
+    requires { 1 ≤ n }
+{
+    print!(rt; " in pieces of {n}: ")?;
+    let mut stage = [0xAAu8; 65536];
+    let mut parser = RecordParser::new();
+    let mut taken: usize = 0;
+    for piece in bytes.chunks(n) {
+        let pushed = push(parser, piece, &mut stage);
+        parser = pushed.parser;
+        taken = taken.saturating_add(pushed.consumed);
+        if !matches!(record_in(pushed), Ok(None)) {
+            let stage = &stage;
+            return println!(rt;
+                "{}",
+                Answer {
+                    pushed,
+                    taken,
+                    piece,
+                    stage
+                }
+            );
+        }
+    }
+    println!(rt; "taken {taken} no record {}", Counts(parser))
 }

@@ -1,53 +1,54 @@
 // Streams of several pushes, a line for each push.
-use crate::answers;
+use crate::answers::{Answer, Encoded};
+use crate::records::Case;
 use parser::{RecordParser, push};
-use record::codec::encode_record;
 use record::types::RecordType;
+use std::io;
 use wire::{Epoch, Sequence};
 
-// One push, on a line; and the parser after it.
-fn push(parser: RecordParser, piece: &[u8], stage: &mut [u8]) -> RecordParser {
-    print::labelled(b"push ", piece.len() as u64);
-    print::text(b" bytes: ");
-    let pushed = push::push(parser, piece, stage);
-    answers::pushed(pushed, pushed.consumed as u64, piece, stage);
-    pushed.parser
+// Pieces to a new parser.
+fn push_each(rt: &impl Print, pieces: &[&[u8]]) -> io::Result<()> {
+    let mut stage = [0xAAu8; 65536];
+    let mut parser = RecordParser::new();
+    for piece in pieces {
+        let pushed = push::push(parser, piece, &mut stage);
+        parser = pushed.parser;
+        let answer = Answer {
+            pushed,
+            taken: pushed.consumed,
+            piece,
+            stage: &stage,
+        };
+        println!(rt; "push {} bytes: {answer}", piece.len())?;
+    }
+    Ok(())
 }
 
 // M5: 43 bytes FF are taken, and one more gives 1, which later pushes give again.
-pub fn all_ones(stage: &mut [u8]) {
+pub fn all_ones(rt: &impl Print) -> io::Result<()> {
     let ones = [0xFFu8; 43];
-    let waiting = push(RecordParser::new(), &ones, stage);
-    let failed = push(waiting, b"\xFF", stage);
-    let again = push(failed, b"", stage);
-    push(again, &ones, stage);
+    push_each(rt, &[&ones, b"\xFF", b"", &ones])
 }
 
 // A CREDIT and a DATA one behind the other: a push takes one record and no byte of the next.
-pub fn two_records(stage: &mut [u8]) {
+pub fn two_records(rt: &impl Print) -> io::Result<()> {
     let mut bytes = [0u8; 95];
-    let instance = [0x22u8; 16];
-    let first = encode_record(
-        RecordType::Credit,
-        instance,
-        Epoch(7),
-        Sequence(2),
-        b"\x03\x00\x00\x00",
-        &mut bytes,
-        0,
-    );
-    let second = encode_record(
-        RecordType::Data,
-        instance,
-        Epoch(7),
-        Sequence(3),
-        b"abc",
-        &mut bytes,
-        first.next,
-    );
-    answers::written(first);
-    answers::written(second);
-    let after_credit = push(RecordParser::new(), &bytes, stage);
-    let within_data = push(after_credit, &bytes[48..93], stage);
-    push(within_data, &bytes[93..95], stage);
+    let credit = Case {
+        record_type: RecordType::Credit,
+        instance_id: [0x22u8; 16],
+        epoch: Epoch(7),
+        sequence: Sequence(2),
+        payload: b"\x03\x00\x00\x00",
+    };
+    let data = Case {
+        record_type: RecordType::Data,
+        sequence: Sequence(3),
+        payload: b"abc",
+        ..credit
+    };
+    let first = credit.encode(&mut bytes, 0);
+    let second = data.encode(&mut bytes, first.unwrap_or(0));
+    println!(rt; "{}", Encoded(first))?;
+    println!(rt; "{}", Encoded(second))?;
+    push_each(rt, &[&bytes, &bytes[48..93], &bytes[93..]])
 }
