@@ -42,7 +42,7 @@ impl Link {
         let received = guest::receive(self.guest, wire, stage);
         let bytes = guest::payload(wire, stage, received.place, received.length);
         let sent = guest::send(received.session, bytes, reply, 0);
-        let amount = (bytes.len() % 4294967296) as u32;
+        let amount = u32::try_from(bytes.len()).unwrap_or(u32::MAX);
         let credited = guest::credit(sent.session, amount, reply, sent.next);
         self.guest = credited.session;
         credited.next
