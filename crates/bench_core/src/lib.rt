@@ -2,7 +2,7 @@
 // Rust are the calls and not the way to them. The static library bench_core_c exports them.
 #![tactic(auto)]
 
-pub mod parts;
 pub mod receive;
 pub mod send;
 pub mod start;
+pub mod sums;

@@ -1,52 +1,40 @@
 // A guest that receives a stream of DATA records in pieces.
 ghost use Rattle.std.specs.Prelude.{◌≡◌, length};
 
-use crate::parts::{Sums, add_payload, after, cut, no_sums, piece_end};
 use crate::start::active_guest;
+use crate::sums::Sums;
 use guest::{GuestEvent, GuestSession, payload};
-use parser::Place;
 
-// The sums after a receive: those of its payload added where it hands one out.
-fn seen<'a>(
+// A guest, and the sums over what it handed out.
+#[derive(Drop)]
+struct Run {
+    guest: GuestSession,
     sums: Sums,
-    event: GuestEvent,
-    piece: &'a [u8],
-    stage: &'a [u8],
-    place: Place,
-    length: usize,
-    whole: bool,
-) -> Sums {
-    match event {
-        GuestEvent::Nothing => sums,
-        GuestEvent::Reset => sums,
-        GuestEvent::Data => add_payload(sums, payload(piece, stage, place, length), whole),
+}
+
+impl Run {
+    // One receive of the front of a piece, and how many bytes it took.
+    fn receive(&mut self, piece: &[u8], whole: bool, stage: &mut [u8]) -> usize {
+        let received = guest::receive(self.guest, piece, stage);
+        self.guest = received.session;
+        if let GuestEvent::Data = received.event {
+            let bytes = payload(piece, stage, received.place, received.length);
+            self.sums.add_payload(bytes, whole);
+        }
+        received.consumed
     }
-}
 
-// A guest at a place of a stream, the end of the piece there, and the sums up to it.
-#[derive(Clone, Copy)]
-pub struct Run {
-    pub guest: GuestSession,
-    pub sums: Sums,
-    pub at: usize,
-    pub end: usize,
-}
-
-// One receive.
-fn turn(run: Run, stream: &[u8], piece: usize, whole: bool, stage: &mut [u8]) -> Run {
-    let at = run.at;
-    let end = piece_end(at, run.end, piece, stream.len());
-    let part = cut(stream, at, end);
-    let before = run.guest;
-    let received = guest::receive(before, part, stage);
-    let event = received.event;
-    let place = received.place;
-    let guest = received.session;
-    Run {
-        guest,
-        sums: seen(run.sums, event, part, stage, place, received.length, whole),
-        at: after(at, received.consumed),
-        end,
+    // Receives until a piece is taken, and answers whether it was.
+    fn receive_all(&mut self, piece: &[u8], whole: bool, stage: &mut [u8]) -> bool {
+        let mut left = piece;
+        while !left.is_empty() {
+            let taken = self.receive(left, whole, stage);
+            if taken == 0 {
+                return false;
+            }
+            left = left.get(taken..).unwrap_or(&[]);
+        }
+        true
     }
 }
 
@@ -55,20 +43,17 @@ fn turn(run: Run, stream: &[u8], piece: usize, whole: bool, stage: &mut [u8]) ->
 pub fn nvxs_receive(stream: &[u8], piece: usize, whole: bool, stage: &mut [u8]) -> u64
     ensures { length stage.new ≡ length stage.old }
 {
+    if piece == 0 {
+        return 0;
+    }
     let mut run = Run {
         guest: active_guest(),
-        sums: no_sums(),
-        at: 0,
-        end: 0,
+        sums: Sums::default(),
     };
-    let mut at: usize = 0;
-    while at < stream.len() {
-        run = turn(run, stream, piece, whole, stage);
-        if run.at <= at {
+    for part in stream.chunks(piece) {
+        if !run.receive_all(part, whole, stage) {
             return 0;
         }
-        at = run.at;
     }
-    let sums = run.sums;
-    sums.weighted
+    run.sums.weighted
 }

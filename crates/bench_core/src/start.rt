@@ -5,9 +5,7 @@ use session::{Identity, OptionalIdentity};
 use wire::{Epoch, Sequence};
 
 // The identity's instance and epoch, and the guest's window.
-pub const INSTANCE: [u8; 16] = [
-    17, 17, 17, 17, 17, 17, 17, 17, 17, 17, 17, 17, 17, 17, 17, 17,
-];
+pub const INSTANCE: [u8; 16] = [17; 16];
 
 pub const EPOCH: u64 = 7;
 

@@ -16,7 +16,7 @@ use outer::payloads::value;
 use parser::push::push;
 use parser::{Pushed, payload};
 use record::Record;
-use text::lines::{LINE, put_line};
+use text::lines::{LINE, Line};
 use wire::Refusal;
 
 // Nothing changed.
@@ -87,16 +87,15 @@ fn record_line(
 {
     let code = code_of(pushed.record);
     let open = open_after(before, code, pushed.record.length, payload);
-    let written = put_line(
-        output,
-        at,
+    let line = Line {
         offset,
-        code as u64,
-        pushed.record.epoch.0,
-        pushed.record.sequence.0,
-        pushed.record.length as u64,
+        code: code as u64,
+        epoch: pushed.record.epoch.0,
+        sequence: pushed.record.sequence.0,
+        size: pushed.record.length as u64,
         open,
-    );
+    };
+    let written = line.put(output, at);
     let empty = settle(pushed.parser);
     Listed {
         refusal: Refusal::none(),

@@ -1,5 +1,6 @@
 -- Numbers in decimal, and text put into a buffer at a place.
-use Rattle.std.specs.Prelude.{ℕ, zero, suc, ◌+◌, ◌/◌, ◌%◌, ◌≤◌, ◌≡◌, List, [], ◌∷◌, ◌++◌, length, leb, ltb}
+use Rattle.std.specs.Prelude.{ℕ, zero, suc, ◌+◌, ◌/◌, ◌%◌, ◌≤◌, ◌≡◌, List, [], ◌∷◌, ◌++◌, length, ltb}
+use Rattle.std.specs.List.{flat_map}
 use Rattle.wire.specs.Refusals.{pick}
 use Rattle.wire.specs.Bytes.{overlay}
 
@@ -16,6 +17,10 @@ decimal n = decimal_in 20 n
 unfoldable pub number : ℕ → ℕ → List ℕ
 number n end = decimal n ++ (end ∷ [])
 
+-- each number and a space after it
+abbrev pub spaced : List ℕ → List ℕ
+spaced ns = flat_map (λ n. number n 32) ns
+
 -- text was put into old at a place, and nothing else was changed; r is the place after it
 pub record Puts (old : List ℕ) (at : ℕ) (text : List ℕ) (r : ℕ) (new : List ℕ) : Type 0 where
   pub next : r ≡ at + length text
@@ -29,8 +34,3 @@ pub record Placed : Type 0 where
 
 abbrev pub placed : ℕ → List ℕ → Placed
 placed next output = record { next = next; output = output }
-
--- a number is put where the longest one has room: 20 digits and the byte that ends them
-unfoldable pub put_number : List ℕ → ℕ → ℕ → ℕ → Placed
-put_number output at n end =
-    pick (leb (at + 21) (length output)) (placed (at + length (number n end)) (overlay output at (number n end))) (placed at output)

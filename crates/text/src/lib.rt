@@ -3,36 +3,43 @@
 
 pub mod lines;
 
-ghost use Rattle.std.specs.Prelude.{◌≡◌, ◌+◌, ◌≤◌, length};
-ghost use Rattle.text.specs.Decimal.{number, Puts, placed, put_number};
-
-use wire::copying::copy_at;
+ghost use Rattle.std.specs.Prelude.{◌+◌, ◌*◌, ◌≤◌, length};
+ghost use Rattle.text.specs.Decimal.{number, spaced, Puts};
 
 // The most bytes that a number takes, with the byte that ends it.
 pub const NUMBER_ROOM: usize = 21;
 
-// The digits and the byte that ends them, where there is room.
-fn put(output: &mut [u8], at: usize, n: u64, end: u8) -> usize
-    requires { at + 21 ≤ length output.old }
-    ensures { Puts output.old at (number n end) result output.new }
+// Puts text, and answers the place after it.
+pub(crate) fn put(output: &mut [u8], at: usize, text: &[u8]) -> usize
+    requires { at + length text.now ≤ length output.old }
+    ensures { Puts output.old at text.now result output.new }
 {
-    let mut digits = [0u8; 20];
-    let k = io::decimal(n, &mut digits);
-    copy_at(output, at, &digits[..k]);
-    output[at + k] = end;
-    at + k + 1
+    let next = at + text.len();
+    output[at..next].copy_from_slice(text);
+    next
 }
 
-// Puts a number and the byte that ends it, and answers the place after them. Where fewer than
-// NUMBER_ROOM bytes are left nothing is put, and the answer is the place itself.
+// Puts a number and the byte that ends it. Not by `write!`, whose contract has the bytes that are
+// written where it answers Ok, and not when it does.
 pub(crate) fn put_number(output: &mut [u8], at: usize, n: u64, end: u8) -> usize
-    ensures { placed result output.new ≡ put_number output.old at n end }
+    requires { at + NUMBER_ROOM ≤ length output.old }
+    ensures { Puts output.old at (number n end) result output.new }
 {
-    if output.len() < NUMBER_ROOM {
-        return at;
+    let mut buffer = itoa::Buffer::new();
+    let last = put(output, at, buffer.format(n).as_bytes());
+    output[last] = end;
+    last + 1
+}
+
+// Puts each number and a space after it.
+pub(crate) fn put_spaced(output: &mut [u8], at: usize, numbers: &[u64]) -> usize
+    requires { at + NUMBER_ROOM * length numbers.now ≤ length output.old }
+    ensures puts { Puts output.old at (spaced numbers.now) result output.new }
+    ensures within { result ≤ at + NUMBER_ROOM * length numbers.now }
+{
+    let mut next = at;
+    for &n in numbers {
+        next = put_number(output, next, n, b' ');
     }
-    if output.len() - NUMBER_ROOM < at {
-        return at;
-    }
-    put(output, at, n, end)
+    next
 }

@@ -1,12 +1,7 @@
--- `text::put_number` meets its contract: each way out is one law of `Puts`. Assumes nothing.
-use Rattle.text.proofs.Puts.{putting}
+-- `text::put_number` meets its contract: the library's digits are those of the definition, and one byte ends them. Assumes nothing.
+use Rattle.std.proofs.Common.{◌∙◌, arith}
+use Rattle.text.proofs.Puts.{number_puts}
 use Rattle.text.proofs.put_number.Goals as goal
 
-pub returns-then-output-lt-NUMBER_ROOM : goal.returns-then-output-lt-NUMBER_ROOM
-returns-then-output-lt-NUMBER_ROOM c = search putting
-
-pub returns-then-output-at : goal.returns-then-output-at
-returns-then-output-at c = search putting
-
 pub returns : goal.returns
-returns c = search putting
+returns c = number_puts c.args.n c.args.end c.ranges.n.fits (omega (arith, c.requires)) (c.as_bytes.ensures.value ∙ c.format.ensures.text) c.put-last.ensures
