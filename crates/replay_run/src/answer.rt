@@ -1,0 +1,179 @@
+// What a call answers, and its bytes (tests/differential/FORMAT.md).
+use crate::bytes::{Bytes, count4};
+use crate::frames::{AREA, Frame, OUTPUT};
+use crate::options::number_of;
+use guest::GuestSession;
+use host::HostSession;
+use parser::{Place, RecordParser, payload};
+use session::Identity;
+use std::alloc::AllocError;
+use wire::Refusal;
+
+// Bytes of an answer's head.
+const HEAD: u32 = 128;
+
+// A part of the memory, or what the port's own `payload` has of the input and of the stage that
+// starts there.
+#[derive(Clone, Copy, Default)]
+pub enum Part {
+    #[default]
+    Nothing,
+    Payload {
+        place: Place,
+        stage: usize,
+        length: usize,
+    },
+    Memory {
+        from: usize,
+        to: usize,
+    },
+}
+
+impl Part {
+    // Its bytes, where the input and the memory have so many.
+    fn slice<'a>(self, input: &'a [u8], memory: &'a [u8]) -> &'a [u8] {
+        match self {
+            Part::Nothing => &[],
+            Part::Payload {
+                place,
+                stage,
+                length,
+            } => payload(input, area(memory, stage), place, length),
+            Part::Memory { from, to } => memory.get(from..to).unwrap_or_default(),
+        }
+    }
+}
+
+// The area of the memory from a place on.
+pub fn area(memory: &[u8], from: usize) -> &[u8] {
+    memory
+        .get(from..from.saturating_add(AREA))
+        .unwrap_or_default()
+}
+
+// The state that an answer shows.
+#[derive(Clone, Copy, Default)]
+pub enum State {
+    #[default]
+    Nothing,
+    Guest(GuestSession),
+    Host(HostSession),
+    Parser(RecordParser),
+}
+
+impl State {
+    // How many bytes it has.
+    fn size(self) -> u32 {
+        match self {
+            State::Nothing => 0,
+            State::Guest(_) | State::Host(_) => 192,
+            State::Parser(_) => 120,
+        }
+    }
+}
+
+impl Bytes for State {
+    fn append(self, out: &mut Vec<u8>) -> Result<(), AllocError> {
+        match self {
+            State::Nothing => Ok(()),
+            State::Guest(guest) => guest.append(out),
+            State::Host(host) => host.append(out),
+            State::Parser(parser) => parser.append(out),
+        }
+    }
+}
+
+// The answer of a call. What does not apply is 0 or none.
+#[derive(Clone, Copy, Default)]
+pub struct Answer {
+    pub event: u8,
+    pub place: Option<Place>,
+    pub refusal: Option<Refusal>,
+    pub count: u64,
+    pub next: u64,
+    pub identity: Option<Identity>,
+    pub window: Option<u32>,
+    pub credit: Option<u32>,
+    pub error_code: Option<u32>,
+    pub record_type: u8,
+    pub payload: Part,
+    pub written: Part,
+    pub state: State,
+}
+
+impl Answer {
+    // The answer that has a refusal alone, or nothing.
+    pub fn refused(refusal: Option<Refusal>) -> Answer {
+        Answer {
+            refusal,
+            ..Answer::default()
+        }
+    }
+
+    // The answer of an operation that writes: what stands in the output from `at` up to `next`.
+    pub fn wrote(refusal: Option<Refusal>, next: usize, at: usize, count: usize) -> Answer {
+        let answer = Answer::refused(refusal);
+        if next <= at {
+            return answer;
+        }
+        Answer {
+            count: count as u64,
+            next: next as u64,
+            written: Part::Memory {
+                from: OUTPUT.saturating_add(at),
+                to: OUTPUT.saturating_add(next),
+            },
+            ..answer
+        }
+    }
+
+    // Appends the answer's bytes: head, payload, written bytes, state.
+    pub fn append(self, f: Frame<'_>, memory: &[u8], out: &mut Vec<u8>) -> Result<(), AllocError> {
+        let payload = self.payload.slice(f.input, memory);
+        let written = self.written.slice(f.input, memory);
+        let payload_len = count4(payload.len());
+        let written_len = count4(written.len());
+        HEAD.saturating_add(payload_len)
+            .saturating_add(written_len)
+            .saturating_add(self.state.size())
+            .append(out)?;
+        f.op.append(out)?;
+        self.append_event(out)?;
+        payload_len.append(out)?;
+        written_len.append(out)?;
+        self.append_values(out)?;
+        payload.append(out)?;
+        written.append(out)?;
+        self.state.append(out)
+    }
+
+    // The head's bytes 5 to 103.
+    fn append_event(self, out: &mut Vec<u8>) -> Result<(), AllocError> {
+        self.event.append(out)?;
+        place_number(self.place).append(out)?;
+        number_of(self.refusal).append(out)?;
+        self.refusal.append(out)?;
+        self.count.append(out)?;
+        self.next.append(out)?;
+        self.identity.append(out)
+    }
+
+    // The head's bytes 112 to 127.
+    fn append_values(self, out: &mut Vec<u8>) -> Result<(), AllocError> {
+        u8::from(self.window.is_some()).append(out)?;
+        u8::from(self.credit.is_some()).append(out)?;
+        u8::from(self.error_code.is_some()).append(out)?;
+        self.record_type.append(out)?;
+        self.window.unwrap_or(0).append(out)?;
+        self.credit.unwrap_or(0).append(out)?;
+        self.error_code.unwrap_or(0).append(out)
+    }
+}
+
+fn place_number(place: Option<Place>) -> u8 {
+    match place {
+        None => 0,
+        Some(Place::Piece(_)) => 1,
+        Some(Place::Stage) => 2,
+    }
+}

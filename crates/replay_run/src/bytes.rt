@@ -1,0 +1,135 @@
+// The bytes of what an answer has (tests/differential/FORMAT.md), appended one after another.
+use crate::options::{identity_of, number_of, refusal_of};
+use guest::GuestSession;
+use host::HostSession;
+use parser::RecordParser;
+use session::{Identity, OptionalIdentity, no_identity};
+use std::alloc::AllocError;
+use wire::{Epoch, Refusal, Sequence};
+
+pub trait Bytes {
+    fn append(self, out: &mut Vec<u8>) -> Result<(), AllocError>;
+}
+
+impl<const N: usize> Bytes for [u8; N] {
+    fn append(self, out: &mut Vec<u8>) -> Result<(), AllocError> {
+        out.extend_from_slice(&self)
+    }
+}
+
+impl Bytes for &[u8] {
+    fn append(self, out: &mut Vec<u8>) -> Result<(), AllocError> {
+        out.extend_from_slice(self)
+    }
+}
+
+impl Bytes for u8 {
+    fn append(self, out: &mut Vec<u8>) -> Result<(), AllocError> {
+        [self].append(out)
+    }
+}
+
+impl Bytes for u32 {
+    fn append(self, out: &mut Vec<u8>) -> Result<(), AllocError> {
+        self.to_le_bytes().append(out)
+    }
+}
+
+impl Bytes for u64 {
+    fn append(self, out: &mut Vec<u8>) -> Result<(), AllocError> {
+        self.to_le_bytes().append(out)
+    }
+}
+
+impl Bytes for Identity {
+    fn append(self, out: &mut Vec<u8>) -> Result<(), AllocError> {
+        self.instance_id.append(out)?;
+        self.epoch.0.append(out)
+    }
+}
+
+// Zeros where there is none.
+impl Bytes for Option<Identity> {
+    fn append(self, out: &mut Vec<u8>) -> Result<(), AllocError> {
+        self.unwrap_or(no_identity()).append(out)
+    }
+}
+
+// A refusal's figures and fields, without its number; zeros where there is none.
+impl Bytes for Option<Refusal> {
+    fn append(self, out: &mut Vec<u8>) -> Result<(), AllocError> {
+        let refusal = self.unwrap_or(Refusal::none());
+        refusal.a.append(out)?;
+        refusal.b.append(out)?;
+        refusal.c.append(out)?;
+        refusal.expected.append(out)?;
+        refusal.actual.append(out)
+    }
+}
+
+impl Bytes for RecordParser {
+    fn append(self, out: &mut Vec<u8>) -> Result<(), AllocError> {
+        let error = refusal_of(self.error);
+        self.header.append(out)?;
+        count4(self.header_len).append(out)?;
+        (self.payload_len as u64).append(out)?;
+        u64::from(number_of(error)).append(out)?;
+        error.append(out)
+    }
+}
+
+// What both sessions have, but for the state, of which each has its own type.
+#[derive(Clone, Copy)]
+struct Common {
+    state: u8,
+    parser: RecordParser,
+    identity: OptionalIdentity,
+    due: Sequence,
+    send: Sequence,
+}
+
+impl Bytes for Common {
+    fn append(self, out: &mut Vec<u8>) -> Result<(), AllocError> {
+        let identity = identity_of(self.identity);
+        u64::from(self.state).append(out)?;
+        self.parser.append(out)?;
+        u64::from(identity.is_some()).append(out)?;
+        identity.append(out)?;
+        self.due.0.append(out)?;
+        self.send.0.append(out)
+    }
+}
+
+impl Bytes for GuestSession {
+    fn append(self, out: &mut Vec<u8>) -> Result<(), AllocError> {
+        let common = Common {
+            state: self.state.number(),
+            parser: self.parser,
+            identity: self.identity,
+            due: self.receive_sequence,
+            send: self.send_sequence,
+        };
+        common.append(out)?;
+        u64::from(self.window).append(out)?;
+        u64::from(self.outstanding).append(out)
+    }
+}
+
+impl Bytes for HostSession {
+    fn append(self, out: &mut Vec<u8>) -> Result<(), AllocError> {
+        let common = Common {
+            state: self.state.number(),
+            parser: self.parser,
+            identity: self.identity,
+            due: self.receive_sequence,
+            send: self.send_sequence,
+        };
+        common.append(out)?;
+        [0u8; 16].append(out)
+    }
+}
+
+// A count in four bytes.
+pub fn count4(count: usize) -> u32 {
+    u32::try_from(count).unwrap_or(u32::MAX)
+}

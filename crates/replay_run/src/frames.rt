@@ -1,0 +1,89 @@
+// The calls of a block, and the parts of the memory that they get (tests/differential/FORMAT.md).
+ghost use Rattle.std.specs.Prelude.{length};
+ghost use Rattle.std.specs.Iterator.{at_most};
+
+// Bytes of an area of the memory.
+pub const AREA: usize = 65600;
+// Bytes of the memory: the stages of guest, host and bare parser, and the output.
+pub const MEMORY: usize = 4 * AREA;
+// Where the output stands in the memory.
+pub const OUTPUT: usize = 3 * AREA;
+
+// A call: the operation's number, two figures and the input. `thin`: a session's receive and credit
+// go by the thin entries.
+#[derive(Clone, Copy)]
+pub struct Frame<'a> {
+    pub op: u8,
+    pub thin: bool,
+    pub a: u64,
+    pub b: u64,
+    pub input: &'a [u8],
+}
+
+impl Frame<'_> {
+    // The value of an operation that writes.
+    pub fn value(self) -> u32 {
+        (self.a & 0xffff_ffff) as u32
+    }
+
+    // The position in the output.
+    pub fn at(self) -> usize {
+        self.b as usize
+    }
+
+    // The stage of a call, in the area from a place on.
+    pub fn stage(self, memory: &mut [u8], from: usize) -> &mut [u8] {
+        lent(memory, from, self.a)
+    }
+
+    // The output of a call.
+    pub fn output(self, memory: &mut [u8]) -> &mut [u8] {
+        lent(memory, OUTPUT, self.a >> 32)
+    }
+}
+
+// The first bytes of an area.
+fn lent(memory: &mut [u8], from: usize, count: u64) -> &mut [u8] {
+    let size = AREA.min(count as usize);
+    memory
+        .get_mut(from..from.saturating_add(size))
+        .unwrap_or_default()
+}
+
+// The frames that are left of a block.
+#[derive(Drop)]
+pub struct Frames<'a> {
+    rest: &'a [u8],
+    thin: bool,
+}
+
+impl<'a> Frames<'a> {
+    pub fn new(calls: &'a [u8], thin: bool) -> Frames<'a> {
+        Frames { rest: calls, thin }
+    }
+}
+
+impl<'a> Iterator for Frames<'a> {
+    type Item = Frame<'a>;
+
+    ghost remaining = { λ s. at_most (length s.rest.now) };
+
+    fn next(&mut self) -> Option<Frame<'a>> {
+        let (&[op, _, _, _], rest) = self.rest.split_first_chunk::<4>()?;
+        let (size, rest) = rest.split_first_chunk::<4>()?;
+        let (a, rest) = rest.split_first_chunk::<8>()?;
+        let (b, rest) = rest.split_first_chunk::<8>()?;
+        let (input, rest) = rest.split_at_checked(u32::from_le_bytes(*size) as usize)?;
+        if op == 0 {
+            return None;
+        }
+        self.rest = rest;
+        Some(Frame {
+            op,
+            thin: self.thin,
+            a: u64::from_le_bytes(*a),
+            b: u64::from_le_bytes(*b),
+            input,
+        })
+    }
+}

@@ -1,0 +1,86 @@
+// The calls of the plain layer: operations 41 to 46. The record encoder has the same input.
+use crate::answer::Answer;
+use crate::frames::Frame;
+use crate::options::{payload_of, refusal_of};
+use outer::payloads::{DecodedPayload, EncodedPayload};
+use outer::{Written, decode_outer_header};
+use session::Identity;
+use wire::{Epoch, Sequence};
+
+// An encoder's input.
+#[derive(Clone, Copy)]
+pub struct Fields<'a> {
+    pub record_type: u8,
+    pub instance_id: [u8; 16],
+    pub epoch: Epoch,
+    pub sequence: Sequence,
+    pub payload: &'a [u8],
+}
+
+impl<'a> Fields<'a> {
+    // The fields; none where the input is too short.
+    pub fn of(input: &'a [u8]) -> Option<Fields<'a>> {
+        let (&[record_type], rest) = input.split_first_chunk::<1>()?;
+        let (instance_id, rest) = rest.split_first_chunk::<16>()?;
+        let (epoch, rest) = rest.split_first_chunk::<8>()?;
+        let (sequence, payload) = rest.split_first_chunk::<8>()?;
+        Some(Fields {
+            record_type,
+            instance_id: *instance_id,
+            epoch: Epoch(u64::from_le_bytes(*epoch)),
+            sequence: Sequence(u64::from_le_bytes(*sequence)),
+            payload,
+        })
+    }
+}
+
+// encode_outer; none of an input that is too short.
+pub fn encode_outer(f: Frame<'_>, output: &mut [u8]) -> Option<Written> {
+    let x = Fields::of(f.input)?;
+    Some(outer::encode_outer(
+        x.record_type,
+        x.instance_id,
+        x.epoch,
+        x.sequence,
+        x.payload,
+        output,
+        f.at(),
+    ))
+}
+
+// decode_outer_header; none of an input that has not 44 bytes.
+pub fn decode_header(input: &[u8]) -> Option<Answer> {
+    let decoded = decode_outer_header(<[u8; 44]>::try_from(input).ok()?);
+    let header = decoded.header;
+    Some(Answer {
+        refusal: refusal_of(decoded.refusal),
+        count: header.length as u64,
+        next: header.sequence.0,
+        identity: Some(Identity {
+            instance_id: header.instance_id,
+            epoch: header.epoch,
+        }),
+        record_type: header.record_type,
+        ..Answer::default()
+    })
+}
+
+// The answer of an encoder of four bytes: they are in place of the window.
+pub fn encoded(payload: EncodedPayload) -> Answer {
+    match payload_of(payload) {
+        Ok(bytes) => Answer {
+            window: Some(u32::from_le_bytes(bytes)),
+            ..Answer::default()
+        },
+        Err(refusal) => Answer::refused(Some(refusal)),
+    }
+}
+
+// The answer of a decoder of four bytes.
+pub fn decoded(payload: DecodedPayload) -> Answer {
+    Answer {
+        refusal: refusal_of(payload.refusal),
+        count: u64::from(payload.value),
+        ..Answer::default()
+    }
+}

@@ -1,0 +1,42 @@
+// The calls of the record encoder, and what types and error codes answer: operations 40, 47, 48.
+use crate::answer::Answer;
+use crate::frames::Frame;
+use crate::options::{error_of, type_of};
+use crate::outer_calls::Fields;
+use outer::Written;
+use record::codec;
+use record::types::ErrorCode;
+
+// encode_record; none of an input that is too short, or of an unknown type.
+pub fn encode_record(f: Frame<'_>, output: &mut [u8]) -> Option<Written> {
+    let x = Fields::of(f.input)?;
+    Some(codec::encode_record(
+        type_of(x.record_type)?,
+        x.instance_id,
+        x.epoch,
+        x.sequence,
+        x.payload,
+        output,
+        f.at(),
+    ))
+}
+
+// What a type's code stands for, whether it is a bootstrap type and allows the length.
+pub fn type_asks(code: u8, length: usize) -> Option<Answer> {
+    let record_type = type_of(code)?;
+    Some(Answer {
+        event: 1,
+        count: u64::from(record_type.is_bootstrap()),
+        next: u64::from(record_type.allows_length(length)),
+        record_type: record_type.code(),
+        ..Answer::default()
+    })
+}
+
+// What an error code stands for.
+pub fn error_asks(code: u32) -> Answer {
+    Answer {
+        error_code: error_of(ErrorCode::from_code(code)).map(|known| known.code()),
+        ..Answer::default()
+    }
+}
