@@ -6,7 +6,7 @@ use crate::answer::{
 };
 use crate::frame::after;
 use parser::{Place, RecordParser};
-use session::{Identity, OptionalIdentity};
+use session::{Identity, held};
 use wire::Refusal;
 
 // The part that the payload is.
@@ -80,11 +80,10 @@ pub fn put_session(
     answer: Answer,
     state: u8,
     parser: RecordParser,
-    held: OptionalIdentity,
+    identity: Option<Identity>,
 ) -> Answer {
-    let shown = held.shown();
     let mut x = put8(answer, 128, state as u64);
     x = put_parser(x, 136, parser);
-    x = put8(x, 256, if shown.present { 1 } else { 0 });
-    put_identity(x, 264, shown.identity)
+    x = put8(x, 256, if identity.is_some() { 1 } else { 0 });
+    put_identity(x, 264, held(identity))
 }

@@ -11,6 +11,7 @@ use replay_answer::answer::{
 };
 use replay_answer::frame::{Frame, low, output, stage};
 use replay_answer::state::{put_session, received};
+use session::held;
 use wire::Sequence;
 
 // Where the stage stands in the memory: its first area.
@@ -124,10 +125,9 @@ fn ask(w: WindowAnswer) -> Ask {
 fn who(g: GuestSession) -> Answer {
     let asked = guest::state(g);
     let state = asked.state;
-    let held = guest::identity(g);
-    let optional = held.identity;
+    let named = guest::identity(g);
     let answer = put1(refused(asked.refusal), EVENT, state.number());
-    put_identity(answer, IDENTITY, optional.identity)
+    put_identity(answer, IDENTITY, held(named.identity))
 }
 
 // state, identity, window, outstanding and needed.

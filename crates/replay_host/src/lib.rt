@@ -10,6 +10,7 @@ use replay_answer::answer::{
 };
 use replay_answer::frame::{AREA, Frame, output, stage};
 use replay_answer::state::{put_session, received};
+use session::held;
 use wire::copying::copy_at;
 use wire::{Refusal, Sequence};
 
@@ -124,10 +125,9 @@ fn disconnect(h: HostSession) -> Ran {
 fn who(h: HostSession) -> Answer {
     let asked = host::state(h);
     let state = asked.state;
-    let held = host::identity(h);
-    let optional = held.identity;
+    let named = host::identity(h);
     let answer = put1(refused(asked.refusal), EVENT, state.number());
-    put_identity(answer, IDENTITY, optional.identity)
+    put_identity(answer, IDENTITY, held(named.identity))
 }
 
 // state, identity and needed.

@@ -14,11 +14,11 @@ ghost use Rattle.wire.specs.Refusals.{refusal, none};
 
 // The epoch of a session: a RESET starts a new one. (01: epoch and sequence are counted
 // separately, and one given in the other's place does not build.)
-#[derive(Clone, Copy)]
+#[derive(Clone, Copy, Debug, PartialEq, Eq, PartialOrd, Ord, Hash)]
 pub struct Epoch(pub u64);
 
 // The number of a record in its direction of a session.
-#[derive(Clone, Copy)]
+#[derive(Clone, Copy, Debug, PartialEq, Eq, PartialOrd, Ord, Hash)]
 pub struct Sequence(pub u64);
 
 // 01's record of a refusal: its number, three figures and two fields of 16 bytes; what a number
