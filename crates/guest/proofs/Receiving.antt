@@ -20,7 +20,7 @@ use Rattle.parser.specs.declared.Place.TheVariants.{Piece}
 use Rattle.parser.specs.declared.Pushed.{Pushed}
 use Rattle.session.specs.Checks.{no_identity, identity_of, last_sequence}
 use Rattle.session.specs.declared.Identity.{Identity}
-use Rattle.guest_core.specs.State.{code, is_open, is_active, sound_guest, with_state, reset_session, data_guest}
+use Rattle.guest_core.specs.State.{is_open, is_active, sound_guest, with_state, reset_session, data_guest}
 use Rattle.guest.specs.Checks.{reset_rows, data_rows}
 use Rattle.guest.specs.Receive.{type_row, is_reset, Receive, answered, refused, told, accept_reset, accept_data, accept, after_push, receive_rows, receive, receive_stage, outcome, receive_of}
 use Rattle.guest_core.specs.declared.GuestState.{GuestState}

@@ -1,11 +1,9 @@
 -- The cases of attach, acknowledge and disconnect, a law for each `return` of the code. Assumes nothing.
-use Prim.Native.Nat.{ℕ, ◌^◌, ◌≤◌, ◌<◌}
+use Prim.Native.Nat.{ℕ, ◌^◌, ◌<◌}
 use mathlib.Core.Path.{◌≡◌, refl, sym, ap, ◌∙◌}
 use mathlib.Core.Bool.{Bool, true, false, not}
 use mathlib.Core.List.{List, [], ◌∷◌}
-use native.Mathlib.Omega.{arith}
 use lib.ListN.{replicate}
-use lib.Dec.{leb}
 use borrow.Author.Tests.{eq-eqb, ne_eqb, not-true, not-false}
 use Rattle.wire.specs.Bytes.{to_le}
 use Rattle.wire.specs.Refusals.{refusal, none, first}

@@ -1,5 +1,5 @@
 -- The guest's states by number, its session values, and soundness (01, "Guest" and "What stops each operation").
-use Rattle.std.specs.Prelude.{ℕ, ◌+◌, Bool, true, false, not, ◌&&◌, ◌||◌, eqb, leb, Option, Some, None}
+use Rattle.std.specs.Prelude.{ℕ, ◌+◌, Bool, not, ◌&&◌, ◌||◌, eqb, leb, Option, Some, None}
 use Rattle.outer.specs.Outer.{max_window}
 use Rattle.record.specs.declared.Record.{Record}
 use Rattle.parser.specs.Push.{fresh, sound_parser}

@@ -1,5 +1,4 @@
 -- `==` at the host's states tests their numbers. Assumes nothing.
-use Prim.Native.Nat.{ℕ}
 use mathlib.Core.Path.{◌≡◌, refl}
 use mathlib.Core.Bool.{Bool}
 use lib.Dec.{eqb}
