@@ -9,11 +9,10 @@ use native.Mathlib.Omega.{arith}
 use lib.ListN.{length, take, length-append}
 use lib.Pointwise.{bytes_decides}
 use lib.Seq.{drop_at, take_all}
-use lib.Dec.{eqb}
-use borrow.Author.Tests.{eq-eqb, eqb-true, ltb-true}
+use borrow.Author.Tests.{eqb-true, ltb-true}
 use Rattle.wire.specs.Bytes.{Octets}
 use Rattle.wire.specs.Header.{type_of, instance_of, epoch_of, sequence_of, length_of}
-use Rattle.wire.proofs.Rows.{Passed, and_left, and_right}
+use Rattle.wire.proofs.Rows.{Passed}
 use Rattle.record.specs.Types.{code_of, length_ok}
 use Rattle.record.specs.Record.{record_bytes, record_with}
 use Rattle.record.specs.declared.Record.{Record}
@@ -58,10 +57,10 @@ pub record Continues (reset : List ℕ) (handed : List (List ℕ)) (i : Identity
   pub named : i ≡ identity (instance_of reset) (epoch_of reset)
   pub next : due ≡ sequence_of reset + 1 + length handed
 
-pub record Stream (l : Transcript) (g : GuestSession) (held : List ℕ) : Type 0 where
+pub record Stream (l : Transcript) (g : GuestSession) (payload : List ℕ) : Type 0 where
   pub start : Start l.reset l.handed
   pub within : sequence_of l.reset + length l.handed < 2 ^ 64
-  pub joins : l.taken ≡ handed_bytes l.reset l.handed ++ held_bytes g.parser held
+  pub joins : l.taken ≡ handed_bytes l.reset l.handed ++ held_bytes g.parser payload
   pub continues : is_live g.state ≡ true → Continues l.reset l.handed (held g.identity) g.receive_sequence.0
 
 abbrev pub StreamAt : Transcript → Endpoint → Type 0

@@ -244,7 +244,7 @@ module _ (h : HostSession) (stage piece : List ℕ) (placed : Placed h.parser st
           (record { refusal = refl; event = refl; taken = all_but more completed comes })
       by_due s (is_data_lem i q c m) =
           let a = is_attached_lem opened s q in
-          let j : identity_of r ≡ (held h.identity) = m ∙ sym a.1 in
+          let j : identity_of r ≡ held h.identity = m ∙ sym a.1 in
           let inst : r.instance_id ≡ (held h.identity).instance_id = ap (λ (x : Identity). x.instance_id) j in
           let epoch : r.epoch.0 ≡ (held h.identity).epoch.0 = ap (λ (x : Identity). x.epoch.0) j in
           let same_instance_lem : same r.instance_id (held h.identity).instance_id ≡ true =

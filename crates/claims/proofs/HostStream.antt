@@ -195,7 +195,7 @@ module _ (l : HostLog) (h : HostSession) (stage piece : List ℕ) (o : Octets pi
 
       -- one that passes the rows
       accepted : (s : HostState) (i : Option Identity) (e : HostReport) (q : Phase) → Leads f.phase (r, y) e q → eqb r.sequence.0 h.receive_sequence.0 ≡ true
-          → h.receive_sequence.0 < last_sequence → Stands s i.identity [] q
+          → h.receive_sequence.0 < last_sequence → Stands s (held i) [] q
           → Followed (record { taken = l.taken ++ more; events = l.events ++ (e ∷ []) }) (next_host h s u.answer.parser i) left
       accepted s i e q k n m z =
           let same : r.sequence.0 ≡ h.receive_sequence.0 = eqb-true r.sequence.0 h.receive_sequence.0 n in
@@ -210,7 +210,7 @@ module _ (l : HostLog) (h : HostSession) (stage piece : List ℕ) (o : Octets pi
             reads = reads_on more f.reads
                 (subst (λ (x : Record). Reads (bytes_in h.parser stage ++ more) ((x, y) ∷ []) (within (bytes_in u.answer.parser left))) (sym t.fields) (whole_reads left t));
             octets = more_octets;
-            stands = subst (λ (b : List ℕ). Stands s i.identity b q) (sym nothing_held) z;
+            stands = subst (λ (b : List ℕ). Stands s (held i) b q) (sym nothing_held) z;
             placed = placed_next h.parser piece stage f.placed (completed_ready t);
           }
 

@@ -1,6 +1,6 @@
 -- The worked examples M1 to M10 of 01, of the rules themselves: sessions and records that they speak of, then the examples, gathered in
 -- `MarkedExamples`. A receive is given the length of its stage and the payload bytes held, so that no stage is written out.
-use Rattle.std.specs.Prelude.{ℕ, ◌+◌, ◌-◌, ◌^◌, ◌≤◌, ◌≡◌, true, List, [], ◌∷◌, ◌++◌, length, replicate, Some}
+use Rattle.std.specs.Prelude.{ℕ, ◌+◌, ◌-◌, ◌^◌, ◌≤◌, ◌≡◌, List, [], ◌∷◌, ◌++◌, length, replicate, Some}
 use Rattle.wire.specs.Bytes.{to_le}
 use Rattle.wire.specs.Refusals.{refusal, none, passes}
 use Rattle.wire.specs.Header.{header_bytes}
