@@ -1,7 +1,7 @@
 // A guest at the point where DATA flows.
 use guest::{GuestSession, GuestState};
 use parser::RecordParser;
-use session::{Identity, OptionalIdentity};
+use session::Identity;
 use wire::{Epoch, Sequence};
 
 // The identity's instance and epoch, and the guest's window.
@@ -16,13 +16,10 @@ pub const WINDOW: u32 = 4194304;
 pub fn active_guest() -> GuestSession {
     GuestSession {
         parser: RecordParser::new(),
-        identity: OptionalIdentity {
-            identity: Identity {
-                instance_id: INSTANCE,
-                epoch: Epoch(EPOCH),
-            },
-            present: true,
-        },
+        identity: Some(Identity {
+            instance_id: INSTANCE,
+            epoch: Epoch(EPOCH),
+        }),
         receive_sequence: Sequence(1),
         send_sequence: Sequence(1),
         window: WINDOW,

@@ -2,6 +2,7 @@
 -- reads as its record whatever stands behind it (`sent_scans`), and the rows of DATA and of a RESET pass, since the history says what the
 -- session holds (`Stream`, `Figures`). Assumes nothing.
 use Prim.Native.Nat.{ℕ, ◌+◌, ◌-◌, ◌≤◌, ◌<◌}
+use Rattle.std.specs.Prelude.{Option, Some, None}
 use mathlib.Core.Path.{◌≡◌, refl, sym, ap, subst, ◌∙◌}
 use mathlib.Core.Bool.{Bool, true, false, not, ◌&&◌}
 use mathlib.Core.List.{List, [], ◌∷◌, ◌++◌, append_assoc}
@@ -19,11 +20,11 @@ use Rattle.outer.specs.Outer.{max_payload}
 use Rattle.record.specs.Types.{code_of}
 use Rattle.record.specs.declared.Record.{Record}
 use Rattle.parser.specs.Push.{Push, push, held_in, head_with}
-use Rattle.session.specs.Checks.{same, identity_of}
+use Rattle.session.specs.Checks.{held, same, identity_of}
 use Rattle.session.specs.declared.Identity.{Identity}
 use Rattle.guest_core.specs.State.{code, is_active, is_live, is_open, sound_guest}
 use Rattle.guest_core.specs.Asks.{state_of}
-use Rattle.guest.specs.Checks.{reset_rows, data_rows}
+use Rattle.guest.specs.Checks.{stale, reset_rows, data_rows}
 use Rattle.guest.specs.Receive as R
 use Rattle.guest_core.specs.declared.GuestState.{GuestState}
 use Rattle.guest_core.specs.declared.GuestState.TheVariants as State
@@ -65,8 +66,8 @@ told_state_lem g q e t = ap (λ (x : StateAnswer). x.state) (rw e at t)
 record Fits (g : GuestSession) (r : Record) (payload : List ℕ) : Type 0 where
   active : is_active g.state ≡ true
   type : code_of r.record_type ≡ 5
-  instance : r.instance_id ≡ g.identity.identity.instance_id
-  epoch : r.epoch.0 ≡ g.identity.identity.epoch.0
+  instance : r.instance_id ≡ (held g.identity).instance_id
+  epoch : r.epoch.0 ≡ (held g.identity).epoch.0
   sequence : r.sequence.0 ≡ g.receive_sequence.0
   not_last : g.receive_sequence.0 < 18446744073709551615
   window : length payload ≤ g.window - g.outstanding
@@ -154,7 +155,7 @@ module _ (g : GuestSession) (i : Invariant g) (stage : List ℕ) (room : max_pay
         ∙ pass_all (data_rows g r) (
           eq-eqb _ _ f.sequence,
           (
-            ap (λ (x : List ℕ). same x g.identity.identity.instance_id) f.instance ∙ same_self g.identity.identity.instance_id,
+            ap (λ (x : List ℕ). same x (held g.identity).instance_id) f.instance ∙ same_self (held g.identity).instance_id,
             (eq-eqb _ _ f.epoch, (lt-ltb _ _ f.not_last, (le-leb _ _ n, tt))),
           ),
         )
@@ -290,7 +291,7 @@ fronts r y part rest k e n = go (dec_lt (length part) 44)
 -- ---- the RESET of a lead that is reattached
 -- before the first RESET no identity is held
 abbrev Blank : GuestSession → Type 0
-Blank g = leb (code g.state) 1 ≡ true → g.identity.present ≡ false
+Blank g = leb (code g.state) 1 ≡ true → g.identity ≡ None
 
 blank_step : {e : Endpoint} {c : Call} {t : Step} → Effect e c t → Blank e.session → Blank t.after.session
 blank_step (refuses_receive piece o lent r n) b = b
@@ -323,28 +324,32 @@ not_live s a b =
     go (yes l) h = true_not_false (sym (rw (le-leb 2 (code s) l, le-leb (code s) 3 h)) ∙ b)
     go (no l) h = le-leb (code s) 1 (omega arith)
 
-not_stale : (present b c : Bool) → (b ≡ true → c ≡ false) → not (present && (b && c)) ≡ true
-not_stale false b c f = refl
-not_stale true false c f = refl
-not_stale true true c f = rw (f refl)
+not_both : (b c : Bool) → (b ≡ true → c ≡ false) → not (b && c) ≡ true
+not_both false c f = refl
+not_both true c f = rw (f refl)
+
+not_stale : (i : Option Identity) (instance : List ℕ) (epoch : ℕ) → (same instance (held i).instance_id ≡ true → leb epoch (held i).epoch.0 ≡ false)
+    → not (stale i instance epoch) ≡ true
+not_stale None instance epoch f = refl
+not_stale (Some j) instance epoch f = not_both (same instance j.instance_id) (leb epoch j.epoch.0) f
 
 new_enough : (g : GuestSession) (r : Record) (reset : List ℕ) (handed : List (List ℕ)) → is_open g.state ≡ true → Blank g
-    → (is_live g.state ≡ true → Continues reset handed g.identity.identity g.receive_sequence.0)
+    → (is_live g.state ≡ true → Continues reset handed (held g.identity) g.receive_sequence.0)
     → (r.instance_id ≡ instance_of reset → epoch_of reset < r.epoch.0)
-    → not (g.identity.present && (same r.instance_id g.identity.identity.instance_id && leb r.epoch.0 g.identity.identity.epoch.0)) ≡ true
+    → not (stale g.identity r.instance_id r.epoch.0) ≡ true
 new_enough g r reset handed opened b continues newer = go (is_live g.state) refl
   where
     go : (t : Bool) → is_live g.state ≡ t
-        → not (g.identity.present && (same r.instance_id g.identity.identity.instance_id && leb r.epoch.0 g.identity.identity.epoch.0)) ≡ true
+        → not (stale g.identity r.instance_id r.epoch.0) ≡ true
     go false q = rw (b (not_live g.state opened q))
     go true q =
         let c = continues q in
-        let epoch : g.identity.identity.epoch.0 ≡ epoch_of reset = ap (λ (x : Identity). x.epoch.0) c.named in
-        not_stale g.identity.present _ _
+        let epoch : (held g.identity).epoch.0 ≡ epoch_of reset = ap (λ (x : Identity). x.epoch.0) c.named in
+        not_stale g.identity r.instance_id r.epoch.0
         (λ x.
         let above : epoch_of reset < r.epoch.0 = newer (same_true _ _ x ∙ ap (λ (y : Identity). y.instance_id) c.named) in
-        let l : g.identity.identity.epoch.0 < r.epoch.0 = omega arith in
-        lt-leb r.epoch.0 g.identity.identity.epoch.0 l)
+        let l : (held g.identity).epoch.0 < r.epoch.0 = omega arith in
+        lt-leb r.epoch.0 (held g.identity).epoch.0 l)
 
 pub reattached : NewResetAccepted
 unfolding step R.receive_of

@@ -8,6 +8,7 @@ use native.Mathlib.Omega.{arith}
 use lib.ListN.{length, take, drop, replicate, length-take}
 use borrow.Author.Tests.{leb-true}
 use Rattle.wire.specs.Bytes.{overlay, to_le, Octets}
+use Rattle.session.specs.Checks.{held}
 use Rattle.wire.specs.Refusals.{first, passes}
 use Rattle.wire.specs.Header.{instance_of}
 use Rattle.wire.specs.declared.Refusal.{Refusal}
@@ -64,7 +65,7 @@ pieces s cs piece o lent = takes_piece (effect_of (after (fresh s) cs) (invarian
 
 -- ---- the identity's instance is 16 bytes long
 abbrev Sized : GuestSession → Type 0
-Sized g = length g.identity.identity.instance_id ≡ 16
+Sized g = length (held g.identity).instance_id ≡ 16
 
 sized_step : {e : Endpoint} {c : Call} {t : Step} → Effect e c t → Sized e.session → Sized t.after.session
 unfolding record_with instance_of
@@ -119,21 +120,21 @@ leave_as e z attach o at =
 leave_as e z (acknowledge w) o at =
     let g = e.session in
     let rows = C.ack_rows g w o at in
-    let l = record_length 4 g.identity.identity.instance_id g.identity.identity.epoch.0 0 (to_le 4 w) z in
+    let l = record_length 4 (held g.identity).instance_id (held g.identity).epoch.0 0 (to_le 4 w) z in
     writes_leave e.stage rows g _ _ _ o at
     (λ p. let r : at + 48 ≤ length o = leb-true (at + 48) (length o) (passed rows (refl, (refl, (refl, (refl, tt)))) p).1.1.1.0 in omega (arith, l, length_to 4 w))
 leave_as e z (send bs) o at =
     let g = e.session in
     let rows = S.send_rows g bs o at in
     let k : ℕ = S.send_count bs in
-    let l = record_length 5 g.identity.identity.instance_id g.identity.identity.epoch.0 g.send_sequence.0 (take k bs) z in
+    let l = record_length 5 (held g.identity).instance_id (held g.identity).epoch.0 g.send_sequence.0 (take k bs) z in
     let m : length (take k bs) ≡ k = simp length-take (omega arith) in
     writes_leave e.stage rows g _ _ _ o at
     (λ p. let r : at + (44 + k) ≤ length o = leb-true (at + (44 + k)) (length o) (passed rows (refl, (refl, (refl, (refl, (refl, tt))))) p).1.1.1.1.0 in omega (arith, l, m))
 leave_as e z (credit m) o at =
     let g = e.session in
     let rows = S.credit_rows g m o at in
-    let l = record_length 9 g.identity.identity.instance_id g.identity.identity.epoch.0 g.send_sequence.0 (to_le 4 m) z in
+    let l = record_length 9 (held g.identity).instance_id (held g.identity).epoch.0 g.send_sequence.0 (to_le 4 m) z in
     writes_leave e.stage rows g _ _ _ o at
     (λ p. let r : at + 48 ≤ length o = leb-true (at + 48) (length o) (passed rows (refl, (refl, (refl, (refl, (refl, tt))))) p).1.1.1.1.0 in omega (arith, l, length_to 4 m))
 

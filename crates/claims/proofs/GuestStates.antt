@@ -1,6 +1,7 @@
 -- What a guest's asks answer, and which calls change nothing. After every call the session's state and identity are what the folds give
 -- (`state_is`, `identity_after_lem`), and a call that changes nothing leaves the same session and stage. Assumes nothing.
 use Prim.Native.Nat.{ℕ}
+use Rattle.std.specs.Prelude.{Option}
 use mathlib.Core.Path.{◌≡◌, refl, sym, ap, subst, ◌∙◌}
 use mathlib.Core.Bool.{true, false}
 use mathlib.Core.List.{List, [], ◌∷◌}
@@ -9,8 +10,7 @@ use lib.ListN.{length}
 use Rattle.wire.specs.Bytes.{Octets}
 use Rattle.wire.specs.Refusals.{pick, none, first, passes}
 use Rattle.parser.specs.Push.{held_in}
-use Rattle.session.specs.Checks.{shown}
-use Rattle.session.specs.declared.OptionalIdentity.{OptionalIdentity}
+use Rattle.session.specs.declared.Identity.{Identity}
 use Rattle.guest_core.specs.State.{is_active, is_ended, sound_guest}
 use Rattle.guest.specs.Receive as R
 use Rattle.guest_core.specs.Asks as A
@@ -58,7 +58,7 @@ state_told_lem s cs =
     ∙ (λ j. told (state (record { refusal = none; state = state_is s cs j })))
 
 -- ---- the identity and the window
-identity_step : {e : Endpoint} {c : Call} {t : Step} → Effect e c t → identity_after (shown e.session.identity) c t.answer ≡ shown t.after.session.identity
+identity_step : {e : Endpoint} {c : Call} {t : Step} → Effect e c t → identity_after e.session.identity c t.answer ≡ t.after.session.identity
 unfolding identity_after
 identity_step (refuses_receive piece o lent r n) = refl
 identity_step (fails piece o lent r u v n t) = refl
@@ -76,14 +76,14 @@ identity_step (fails_buffered r n d) = refl
 identity_step (tells q a n) = refl
 
 identity_after_lem : (e : Endpoint) (cs : List Call) → Invariant e.session
-    → history identity_after (shown e.session.identity) (trace e cs) ≡ shown (after e cs).session.identity
+    → history identity_after e.session.identity (trace e cs) ≡ (after e cs).session.identity
 unfolding after trace history
 identity_after_lem e [] f = refl
 identity_after_lem e (c ∷ cs) f =
-    ap (λ (i : OptionalIdentity). history identity_after i (trace (step e c).after cs)) (identity_step (effect_of e f c))
+    ap (λ (i : Option Identity). history identity_after i (trace (step e c).after cs)) (identity_step (effect_of e f c))
     ∙ identity_after_lem (step e c).after cs (invariant_next e c f)
 
-told_identity_lem : (g : GuestSession) → sound_guest g ≡ true → A.identity_of g ≡ record { refusal = none; identity = shown g.identity }
+told_identity_lem : (g : GuestSession) → sound_guest g ≡ true → A.identity_of g ≡ record { refusal = none; identity = g.identity }
 unfolding A.identity_of
 told_identity_lem g e = rw e
 
@@ -91,7 +91,7 @@ pub identity_told_lem : IdentityTold
 unfolding step
 identity_told_lem s cs =
     ap (λ (a : IdentityAnswer). told (identity a)) (told_identity_lem (e s cs).session (invariant_sound _ (kept s cs)))
-    ∙ ap (λ (i : OptionalIdentity). told (identity (record { refusal = none; identity = i }))) (sym (identity_after_lem (fresh s) cs fresh_invariant))
+    ∙ ap (λ (i : Option Identity). told (identity (record { refusal = none; identity = i }))) (sym (identity_after_lem (fresh s) cs fresh_invariant))
 
 window_as : (s : GuestState) (w : ℕ) → pick (is_active s) (record { refusal = none; present = true; window = w }) (A.no_window none) ≡ window_in s w
 window_as State.Detached w = refl

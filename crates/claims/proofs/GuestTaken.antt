@@ -7,17 +7,17 @@ use mathlib.Core.Bool.{true}
 use mathlib.Core.List.{List, [], ◌∷◌, ◌++◌, append_assoc, append-nil}
 use native.Mathlib.Omega.{arith}
 use lib.ListN.{length, take, length-append}
+use lib.Pointwise.{bytes_decides}
 use lib.Seq.{drop_at, take_all}
-use lib.Dec.{eqb}
-use borrow.Author.Tests.{eq-eqb, eqb-true, ltb-true}
+use borrow.Author.Tests.{eqb-true, ltb-true}
 use Rattle.wire.specs.Bytes.{Octets}
 use Rattle.wire.specs.Header.{type_of, instance_of, epoch_of, sequence_of, length_of}
-use Rattle.wire.proofs.Rows.{Passed, and_left, and_right}
+use Rattle.wire.proofs.Rows.{Passed}
 use Rattle.record.specs.Types.{code_of, length_ok}
 use Rattle.record.specs.Record.{record_bytes, record_with}
 use Rattle.record.specs.declared.Record.{Record}
 use Rattle.parser.specs.Push.{Push, push_stage, held_in}
-use Rattle.session.specs.Checks.{same, identity, identity_of}
+use Rattle.session.specs.Checks.{held, same, identity, identity_of}
 use Rattle.session.specs.declared.Identity.{Identity}
 use Rattle.guest_core.specs.State.{is_live}
 use Rattle.guest.specs.Checks.{reset_rows, data_rows}
@@ -34,15 +34,11 @@ use Rattle.claims.proofs.GuestEffects.{PushFacts}
 -- ---- lists
 pub same_self : (a : List ℕ) → same a a ≡ true
 unfolding same
-same_self [] = refl
-same_self (x ∷ xs) = rw (eq-eqb x x refl) (same_self xs)
+same_self a = (bytes_decides a a).1 refl
 
 pub same_true : (a b : List ℕ) → same a b ≡ true → a ≡ b
 unfolding same
-same_true [] [] e = refl
-same_true [] (y ∷ ys) e = cc
-same_true (x ∷ xs) [] e = cc
-same_true (x ∷ xs) (y ∷ ys) e = cc (eqb-true x y (and_left (eqb x y) (same xs ys) e), same_true xs ys (and_right (eqb x y) (same xs ys) e))
+same_true a b e = (bytes_decides a b).0 e
 
 data_snoc : (i : List ℕ) (e n : ℕ) (ds : List (List ℕ)) (d : List ℕ) → data_bytes i e n (ds ++ (d ∷ [])) ≡ data_bytes i e n ds ++ record_bytes 5 i e (n + length ds) d
 unfolding data_bytes
@@ -61,11 +57,11 @@ pub record Continues (reset : List ℕ) (handed : List (List ℕ)) (i : Identity
   pub named : i ≡ identity (instance_of reset) (epoch_of reset)
   pub next : due ≡ sequence_of reset + 1 + length handed
 
-pub record Stream (l : Transcript) (g : GuestSession) (held : List ℕ) : Type 0 where
+pub record Stream (l : Transcript) (g : GuestSession) (payload : List ℕ) : Type 0 where
   pub start : Start l.reset l.handed
   pub within : sequence_of l.reset + length l.handed < 2 ^ 64
-  pub joins : l.taken ≡ handed_bytes l.reset l.handed ++ held_bytes g.parser held
-  pub continues : is_live g.state ≡ true → Continues l.reset l.handed g.identity.identity g.receive_sequence.0
+  pub joins : l.taken ≡ handed_bytes l.reset l.handed ++ held_bytes g.parser payload
+  pub continues : is_live g.state ≡ true → Continues l.reset l.handed (held g.identity) g.receive_sequence.0
 
 abbrev pub StreamAt : Transcript → Endpoint → Type 0
 StreamAt l e = Stream l e.session (held_in e.session.parser e.stage)
@@ -105,14 +101,14 @@ module _ {g : GuestSession} {z piece : List ℕ} {u : Push} {h y : List ℕ} (t 
       omega arith
 
   pub data_within : (reset : List ℕ) (handed : List (List ℕ)) (d : List ℕ) → Passed (data_rows g u.answer.«record»)
-      → Continues reset handed g.identity.identity g.receive_sequence.0 → sequence_of reset + length (handed ++ (d ∷ [])) < 2 ^ 64
+      → Continues reset handed (held g.identity) g.receive_sequence.0 → sequence_of reset + length (handed ++ (d ∷ [])) < 2 ^ 64
   data_within reset handed d p k =
       let l : g.receive_sequence.0 < 18446744073709551615 = ltb-true _ _ p.1.1.1.0 in
       simp length-append (omega (arith, k.next))
 
   -- DATA that passes the rows is the encoding with the identity and the sequence due
   data_is : (reset : List ℕ) (handed : List (List ℕ)) → Octets h → code_of u.answer.«record».record_type ≡ 5 → Passed (data_rows g u.answer.«record»)
-      → Continues reset handed g.identity.identity g.receive_sequence.0
+      → Continues reset handed (held g.identity) g.receive_sequence.0
       → h ++ y ≡ record_bytes 5 (instance_of reset) (epoch_of reset) (sequence_of reset + 1 + length handed) y
   data_is reset handed o q p k =
       let r = u.answer.«record» in
@@ -152,7 +148,7 @@ module _ (l : Transcript) (g : GuestSession) (z piece : List ℕ) (u : Push) (s 
         ∙ last_is before h t.matches.size
 
     pub data_joins : (o : Octets h) → code_of u.answer.«record».record_type ≡ 5 → Passed (data_rows g u.answer.«record»)
-        → Continues l.reset l.handed g.identity.identity g.receive_sequence.0 → (d : List ℕ) → d ≡ y
+        → Continues l.reset l.handed (held g.identity) g.receive_sequence.0 → (d : List ℕ) → d ≡ y
         → l.taken ++ more ≡ handed_bytes l.reset (l.handed ++ (d ∷ [])) ++ held_bytes u.answer.parser (held_in u.answer.parser (push_stage g.parser piece z))
     data_joins o q p k d e =
         taken_more t.matches.joins

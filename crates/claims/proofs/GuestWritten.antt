@@ -13,7 +13,7 @@ use Rattle.wire.specs.Refusals.{pick, first, passes}
 use Rattle.wire.specs.declared.Refusal.{Refusal}
 use Rattle.wire.proofs.Rows.{picked, passed, and_right}
 use Rattle.record.specs.Record.{record_bytes}
-use Rattle.session.specs.Checks.{identity}
+use Rattle.session.specs.Checks.{held, identity}
 use Rattle.guest_core.specs.State.{code, is_resetting, is_active, is_live, is_failed}
 use Rattle.guest_core.specs.Writes as W
 use Rattle.guest_core.specs.Calls as C
@@ -76,7 +76,7 @@ live_unfailed : (s : GuestState) → is_live s ≡ true → is_failed s ≡ fals
 live_unfailed s e = ne_eqb (code s) 5 (λ q. omega (arith, leb-true (code s) 3 (and_right (leb 2 (code s)) (leb (code s) 3) e)))
 
 named_as : (s : List ℕ) (cs : List Call) → AllOwnOrShorter cs → is_live (after (fresh s) cs).session.state ≡ true
-    → (after (fresh s) cs).session.identity.identity ≡ identity (last_instance s cs) (last_epoch s cs)
+    → held (after (fresh s) cs).session.identity ≡ identity (last_instance s cs) (last_epoch s cs)
 unfolding Streams
 named_as s cs w a =
     let g : GuestSession = (after (fresh s) cs).session in

@@ -26,7 +26,8 @@ use Rattle.parser.specs.Push.{Push, push, push_rows, push_head, push_body, finis
 use Rattle.parser.specs.declared.Place.{Place}
 use Rattle.parser.specs.declared.Place.TheVariants.{Piece}
 use Rattle.parser.specs.declared.RecordParser.{RecordParser}
-use Rattle.session.specs.Checks.{same, identity_of, identity_ok, holds, last_sequence}
+use Rattle.std.specs.Prelude.{Option, Some, None}
+use Rattle.session.specs.Checks.{held, same, identity_of, identity_ok, holds, last_sequence}
 use Rattle.session.specs.declared.Identity.{Identity}
 use Rattle.host.specs.State.{code, is_detached, is_attaching, is_attached, is_open, is_begun, sound_host}
 use Rattle.host.specs.Checks.{order_rows, type_rows, record_rows}
@@ -156,6 +157,12 @@ record Awaited (piece : List ℕ) (t : Receive) (left : List ℕ) : Type 0 where
   taken : t.answer.consumed ≡ length piece
 
 -- one that is open goes to `after_push`
+-- an identity that is held is one
+held_ok : (i : Option Identity) → holds i ≡ true → identity_ok (held i).instance_id (held i).epoch.0 ≡ true
+unfolding holds
+held_ok None e = true_not_false (sym e)
+held_ok (Some j) e = e
+
 module _ (h : HostSession) (stage piece : List ℕ) (placed : Placed h.parser stage) (sound : sound_host h ≡ true) (opened : is_open h.state ≡ true) where
   abbrev b : List ℕ
   b = bytes_in h.parser stage
@@ -195,7 +202,7 @@ module _ (h : HostSession) (stage piece : List ℕ) (placed : Placed h.parser st
     same_record = completed.fields ∙ sent_record_lem r y k
 
     abbrev rows_of : RecordType → List (Bool × Refusal)
-    rows_of t = order_rows h.state (code_of t) r.sequence.0 h.receive_sequence.0 ++ type_rows (code_of t) h.identity.identity r
+    rows_of t = order_rows h.state (code_of t) r.sequence.0 h.receive_sequence.0 ++ type_rows (code_of t) (held h.identity) r
 
     -- where its rows pass, a receive does what its type says
     receive_takes : (e : HostReport) (t : RecordType) → code_of r.record_type ≡ code_of t → Passed (rows_of t) → Reported e piece more (effect t h u) left
@@ -220,7 +227,7 @@ module _ (h : HostSession) (stage piece : List ℕ) (placed : Placed h.parser st
 
     module _ (named : is_attached h.state ≡ true → holds h.identity ≡ true) (sequence : r.sequence.0 ≡ h.receive_sequence.0)
         (last : h.receive_sequence.0 < last_sequence) where
-      by_due : {p : Phase} {e : HostReport} → Stands h.state h.identity.identity b p → Due p (r, y) e
+      by_due : {p : Phase} {e : HostReport} → Stands h.state (held h.identity) b p → Due p (r, y) e
           → Reported e piece more (R.receive h (length stage) (held_in h.parser stage) piece) (receive_stage h piece stage)
       unfolding effect holds
       by_due s (is_wait q c) =
@@ -237,11 +244,11 @@ module _ (h : HostSession) (stage piece : List ℕ) (placed : Placed h.parser st
           (record { refusal = refl; event = refl; taken = all_but more completed comes })
       by_due s (is_data_lem i q c m) =
           let a = is_attached_lem opened s q in
-          let j : identity_of r ≡ h.identity.identity = m ∙ sym a.1 in
-          let inst : r.instance_id ≡ h.identity.identity.instance_id = ap (λ (x : Identity). x.instance_id) j in
-          let epoch : r.epoch.0 ≡ h.identity.identity.epoch.0 = ap (λ (x : Identity). x.epoch.0) j in
-          let same_instance_lem : same r.instance_id h.identity.identity.instance_id ≡ true =
-          ap (λ (x : List ℕ). same x h.identity.identity.instance_id) inst ∙ same_self h.identity.identity.instance_id
+          let j : identity_of r ≡ held h.identity = m ∙ sym a.1 in
+          let inst : r.instance_id ≡ (held h.identity).instance_id = ap (λ (x : Identity). x.instance_id) j in
+          let epoch : r.epoch.0 ≡ (held h.identity).epoch.0 = ap (λ (x : Identity). x.epoch.0) j in
+          let same_instance_lem : same r.instance_id (held h.identity).instance_id ≡ true =
+          ap (λ (x : List ℕ). same x (held h.identity).instance_id) inst ∙ same_self (held h.identity).instance_id
           in
           let pay : payload_at u.answer.place u.answer.«record».length piece left ≡ y =
           (push_staged h.parser piece stage placed.ready placed.room).lies completed.complete ∙ completed.payload
@@ -251,16 +258,16 @@ module _ (h : HostSession) (stage piece : List ℕ) (placed : Placed h.parser st
           (record { refusal = refl; event = ap (λ (x : List ℕ). data_event x ∷ []) pay; taken = all_but more completed comes })
       by_due s (is_reset_lem i q c m l) =
           let a = is_attached_lem opened s q in
-          let inst : r.instance_id ≡ h.identity.identity.instance_id = m ∙ ap (λ (x : Identity). x.instance_id) (sym a.1) in
-          let epoch : h.identity.identity.epoch.0 ≡ i.epoch.0 = ap (λ (x : Identity). x.epoch.0) a.1 in
-          let above : h.identity.identity.epoch.0 < r.epoch.0 = omega arith in
-          let same_instance_lem : same r.instance_id h.identity.identity.instance_id ≡ true =
-          ap (λ (x : List ℕ). same x h.identity.identity.instance_id) inst ∙ same_self h.identity.identity.instance_id
+          let inst : r.instance_id ≡ (held h.identity).instance_id = m ∙ ap (λ (x : Identity). x.instance_id) (sym a.1) in
+          let epoch : (held h.identity).epoch.0 ≡ i.epoch.0 = ap (λ (x : Identity). x.epoch.0) a.1 in
+          let above : (held h.identity).epoch.0 < r.epoch.0 = omega arith in
+          let same_instance_lem : same r.instance_id (held h.identity).instance_id ≡ true =
+          ap (λ (x : List ℕ). same x (held h.identity).instance_id) inst ∙ same_self (held h.identity).instance_id
           in
           let ok : identity_ok r.instance_id r.epoch.0 ≡ true =
-          still_identity h.identity.identity r.instance_id r.epoch.0 (and_right h.identity.present _ (named a.0)) inst above
+          still_identity (held h.identity) r.instance_id r.epoch.0 (held_ok h.identity (named a.0)) inst above
           in
-          let new : not (leb r.epoch.0 h.identity.identity.epoch.0) ≡ true = rw (lt-leb r.epoch.0 h.identity.identity.epoch.0 above) in
+          let new : not (leb r.epoch.0 (held h.identity).epoch.0) ≡ true = rw (lt-leb r.epoch.0 (held h.identity).epoch.0 above) in
           let b1 : is_attaching h.state ≡ false = ne_eqb (code h.state) 1 (λ z. omega (arith, eqb-true (code h.state) 2 a.0)) in
           receive_takes (reset_event (identity_of r)) Kind.Reset c
           (rw (b1, a.0), (eq-eqb _ _ sequence, (lt-ltb _ _ last, (ok, (same_instance_lem, (new, tt))))))

@@ -2,6 +2,8 @@
 -- payload handed out lies where the answer says. It leans on the same of one push (`push_staged`). While the session can still
 -- receive, its parser can go on (`Ready`), so that the premises of that law hold again. Assumes nothing.
 use Prim.Native.Nat.{ℕ}
+use Rattle.std.specs.Prelude.{Option}
+use Rattle.session.specs.declared.Identity.{Identity}
 use mathlib.Core.Path.{◌≡◌, refl, sym, ap, ◌∙◌}
 use mathlib.Core.Bool.{true}
 use mathlib.Core.List.{List, ◌++◌}
@@ -15,7 +17,6 @@ use Rattle.record.specs.declared.types.RecordType.{RecordType}
 use Rattle.record.specs.declared.types.RecordType.TheVariants as Kind
 use Rattle.parser.specs.Push.{Push, push, push_stage, held_in, head_with, payload_at}
 use Rattle.wire.specs.declared.Sequence.{Sequence}
-use Rattle.session.specs.declared.OptionalIdentity.{OptionalIdentity}
 use Rattle.host.specs.State.{code, is_open, is_begun}
 use Rattle.host.specs.Checks.{record_rows}
 use Rattle.host.specs.Receive.{Receive, effect, accept, after_push, receive_rows, receive, receive_stage}
@@ -52,7 +53,7 @@ module _ (h : HostSession) (piece : List ℕ) (u : Push) (n : ℕ) (stage : List
 
   -- any session with the parser that the push left
   module _ (e : passes u.answer.refusal ≡ true) where
-    keeps : (s : HostState) (i : OptionalIdentity) (due next : Sequence)
+    keeps : (s : HostState) (i : Option Identity) (due next : Sequence)
         → Lands (record { state = s; parser = u.answer.parser; identity = i; receive_sequence = due; send_sequence = next }) u.held stage
     keeps s i due next = record { room = staged.same_length ∙ room; reads = staged.held; ready = λ _. ready e }
 

@@ -9,6 +9,7 @@ use lib.ListN.{length, drop}
 use lib.Dec.{ltb, leb, eqb}
 use borrow.Author.Tests.{leb-true, lt-leb, eqb-true, eqb-false, ne_eqb}
 use Rattle.wire.specs.Refusals.{refusal, first, passes}
+use Rattle.session.specs.Checks.{held}
 use Rattle.wire.specs.Header.{type_of, length_of}
 use Rattle.wire.specs.declared.Refusal.{Refusal}
 use Rattle.wire.proofs.Rows.{picked, and_left, and_right}
@@ -118,7 +119,7 @@ module _ (h : HostSession) (u : Push) where
   accept_not =
       let r : Record = u.answer.«record» in
       picked NotReceive (passes (first (record_rows h r))) (λ _. effect_not r.record_type)
-      (λ _. first_not (record_rows h r) (refl, (refl, (refl, type_not (code_of r.record_type) h.identity.identity r))))
+      (λ _. first_not (record_rows h r) (refl, (refl, (refl, type_not (code_of r.record_type) (held h.identity) r))))
 
   after_not : NotPush u → NotReceive (Receive.after_push h u)
   unfolding Receive.after_push

@@ -10,6 +10,7 @@ use lib.ListN.{length, take, drop, replicate, length-take}
 use lib.Dec.{eqb, ltb}
 use borrow.Author.Tests.{leb-true}
 use Rattle.wire.specs.Bytes.{overlay}
+use Rattle.session.specs.Checks.{held}
 use Rattle.wire.specs.Refusals.{first, passes, none}
 use Rattle.wire.specs.declared.Refusal.{Refusal}
 use Rattle.wire.proofs.Rows.{picked, passed}
@@ -144,7 +145,7 @@ push_sized p size held piece s =
 
 pub record SizedHost (h : HostSession) : Type 0 where
   pub parser : Sized h.parser
-  pub instance : length h.identity.identity.instance_id ≡ 16
+  pub instance : length (held h.identity).instance_id ≡ 16
 
 abbrev SizedAfter : Receive → Type 0
 SizedAfter r = SizedHost r.answer.session
@@ -239,7 +240,7 @@ unfolding step Calls.send
 send_leaves h s stage bytes o at =
     let rows = Calls.send_rows h bytes o at in
     let k : ℕ = Calls.send_count bytes in
-    let n = record_length 5 h.identity.identity.instance_id h.identity.identity.epoch.0 h.send_sequence.0 (take k bytes) s.instance in
+    let n = record_length 5 (held h.identity).instance_id (held h.identity).epoch.0 h.send_sequence.0 (take k bytes) s.instance in
     let m : length (take k bytes) ≡ k = simp length-take (omega arith) in
     writes_leave stage rows h _ _ _ o at
     (λ p. let r : at + (44 + k) ≤ length o = leb-true (at + (44 + k)) (length o) (passed rows (refl, (refl, (refl, (refl, (refl, tt))))) p).1.1.1.1.0 in omega (arith, n, m))

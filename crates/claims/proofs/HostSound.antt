@@ -14,7 +14,7 @@ use Rattle.record.specs.declared.types.RecordType.{RecordType}
 use Rattle.record.specs.declared.types.RecordType.TheVariants as Kind
 use Rattle.record.specs.declared.Record.{Record}
 use Rattle.parser.specs.Push.{sound_parser, counts_ok, error_ok, Push, push, held_in, buffered_of}
-use Rattle.session.specs.Checks.{holds, sequence_row, next_row}
+use Rattle.session.specs.Checks.{held, holds, sequence_row, next_row}
 use Rattle.host.specs.State.{is_attached, is_begun, sound_host}
 use Rattle.host.specs.Checks.{allowed, type_rows, record_rows}
 use Rattle.host.specs.Receive.{Receive, effect, accept, after_push, receive_rows, receive, receive_of}
@@ -50,8 +50,8 @@ module _ (h : HostSession) (f : Fit h) (u : Push) (s : sound_parser u.answer.par
   unfolding effect holds
   ready_named q e =
       let r : Record = u.answer.«record» in
-      let t : passes (first ((allowed h.state 7, refusal 10 7 0 0) ∷ sequence_row h.receive_sequence.0 r.sequence.0 ∷ next_row 7 h.receive_sequence.0 ∷ type_rows 7 h.identity.identity r)) ≡ true =
-      subst (λ (k : RecordType). passes (first ((allowed h.state (code_of k), refusal 10 (code_of k) 0 0) ∷ sequence_row h.receive_sequence.0 r.sequence.0 ∷ next_row (code_of k) h.receive_sequence.0 ∷ type_rows (code_of k) h.identity.identity r)) ≡ true) q e
+      let t : passes (first ((allowed h.state 7, refusal 10 7 0 0) ∷ sequence_row h.receive_sequence.0 r.sequence.0 ∷ next_row 7 h.receive_sequence.0 ∷ type_rows 7 (held h.identity) r)) ≡ true =
+      subst (λ (k : RecordType). passes (first ((allowed h.state (code_of k), refusal 10 (code_of k) 0 0) ∷ sequence_row h.receive_sequence.0 r.sequence.0 ∷ next_row (code_of k) h.receive_sequence.0 ∷ type_rows (code_of k) (held h.identity) r)) ≡ true) q e
       in
       record { parser = s; named = λ _. (passed _ (refl, (refl, (refl, (refl, tt)))) t).1.1.1.0 }
 

@@ -1,6 +1,7 @@
 -- What a host's asks answer, where its calls succeed, and which change nothing. After every call the session's state and identity are what
 -- the folds give, and a call that changes nothing leaves the same session and stage. Assumes nothing.
 use Prim.Native.Nat.{ℕ}
+use Rattle.std.specs.Prelude.{Option}
 use mathlib.Core.Path.{◌≡◌, refl, sym, ap, subst, ◌∙◌}
 use mathlib.Core.Bool.{true, false}
 use mathlib.Core.List.{List, [], ◌∷◌}
@@ -12,8 +13,7 @@ use Rattle.wire.proofs.Rows.{picked}
 use Rattle.record.specs.declared.types.RecordType.{RecordType}
 use Rattle.record.specs.declared.types.RecordType.TheVariants as Kind
 use Rattle.parser.specs.Push.{Push, push, held_in, buffered_of}
-use Rattle.session.specs.Checks.{shown}
-use Rattle.session.specs.declared.OptionalIdentity.{OptionalIdentity}
+use Rattle.session.specs.declared.Identity.{Identity}
 use Rattle.host.specs.State.{is_begun, sound_host}
 use Rattle.host.specs.Checks.{record_rows}
 use Rattle.host.specs.Receive.{Receive, effect, accept, after_push, receive_rows, receive_stage, receive_of}
@@ -41,7 +41,7 @@ ended host_failed_lem = refl
 -- the identity that it leaves
 module _ (h : HostSession) where
   abbrev Named : Receive → Type 0
-  Named r = host_named_by (shown h.identity) r.answer.event r.answer.identity ≡ shown r.answer.session.identity
+  Named r = host_named_by h.identity r.answer.event r.answer.identity ≡ r.answer.session.identity
 
   effect_named : (u : Push) (k : RecordType) → Named (effect k h u)
   unfolding effect
@@ -85,13 +85,13 @@ not_written_lem r h z n bytes o at =
 
 -- what both sessions have
 kept_identity : (r : Refusal) (h z : HostSession) (n : ℕ) (bytes o : List ℕ) (at : ℕ) → h.identity ≡ z.identity
-    → shown h.identity ≡ shown (Calls.writes r h z n bytes o at).sent.session.identity
+    → h.identity ≡ (Calls.writes r h z n bytes o at).sent.session.identity
 unfolding Calls.writes
-kept_identity r h z n bytes o at e = picked (λ (x : Calls.Outcome). shown h.identity ≡ shown x.sent.session.identity) (passes r) (λ _. ap shown e) (λ _. refl)
+kept_identity r h z n bytes o at e = picked (λ (x : Calls.Outcome). h.identity ≡ x.sent.session.identity) (passes r) (λ _. e) (λ _. refl)
 
 -- ---- disconnect
 record Leaves (h : HostSession) (r : Closed) : Type 0 where
-  identity : shown h.identity ≡ shown r.session.identity
+  identity : h.identity ≡ r.session.identity
   ends : is_begun h.state ≡ false → r ≡ record { refusal = none; session = h }
 
 disconnect_leaves : (h : HostSession) → sound_host h ≡ true → Leaves h (Calls.disconnect h)
@@ -107,7 +107,7 @@ disconnect_leaves h sound =
 
 -- ---- one call
 identity_next : (h : HostSession) (stage : List ℕ) → Fit h → (c : HostCall)
-    → host_identity_after (shown h.identity) c (step h stage c).reply ≡ shown (step h stage c).place.host.identity
+    → host_identity_after h.identity c (step h stage c).reply ≡ (step h stage c).place.host.identity
 unfolding host_identity_after step Calls.attach Calls.send receive_of
 identity_next h stage f (attach capability k output at) = kept_identity _ h _ _ _ _ _ refl
 identity_next h stage f (receive piece) = receive_named h (length stage) (held_in h.parser stage) piece
@@ -118,7 +118,7 @@ identity_next h stage f ask_state = refl
 identity_next h stage f ask_identity = refl
 identity_next h stage f ask_needed = refl
 
-identity_asked : (h : HostSession) → sound_host h ≡ true → Asks.identity_of h ≡ record { refusal = none; identity = shown h.identity }
+identity_asked : (h : HostSession) → sound_host h ≡ true → Asks.identity_of h ≡ record { refusal = none; identity = h.identity }
 unfolding Asks.identity_of
 identity_asked h e = rw e
 
@@ -134,11 +134,11 @@ call_idle h stage f ask_identity x = refl
 call_idle h stage f ask_needed x = refl
 
 -- ---- lists of calls
-identity_after_lem : (p : HostPlace) (cs : List HostCall) → Fit p.host → host_history host_identity_after (shown p.host.identity) p cs ≡ shown (after p cs).host.identity
+identity_after_lem : (p : HostPlace) (cs : List HostCall) → Fit p.host → host_history host_identity_after p.host.identity p cs ≡ (after p cs).host.identity
 unfolding after host_history
 identity_after_lem p [] f = refl
 identity_after_lem p (c ∷ cs) f =
-    ap (λ (i : OptionalIdentity). host_history host_identity_after i (next p c) cs) (identity_next p.host p.stage f c)
+    ap (λ (i : Option Identity). host_history host_identity_after i (next p c) cs) (identity_next p.host p.stage f c)
     ∙ identity_after_lem (next p c) cs (fit_step p.host p.stage c f)
 
 -- ---- the claims
@@ -157,7 +157,7 @@ pub host_identity_told : HostIdentityTold
 unfolding step
 host_identity_told s cs =
     ap told_identity (identity_asked (p s cs).host (sound s cs))
-    ∙ ap (λ (i : OptionalIdentity). told_identity (record { refusal = none; identity = i })) (sym (identity_after_lem (fresh_place s) cs (fresh_fit s)))
+    ∙ ap (λ (i : Option Identity). told_identity (record { refusal = none; identity = i })) (sym (identity_after_lem (fresh_place s) cs (fresh_fit s)))
 
 pub host_idle : HostRefusedChangesNothing
 host_idle s cs c x ds =

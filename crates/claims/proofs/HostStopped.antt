@@ -10,6 +10,7 @@ use lib.ListN.{length}
 use lib.Dec.{eqb, leb}
 use borrow.Author.Tests.{eqb-true, leb-true, ne_eqb}
 use Rattle.wire.specs.Refusals.{pick, refusal, none, first, passes}
+use Rattle.session.specs.Checks.{held}
 use Rattle.wire.specs.declared.Refusal.{Refusal}
 use Rattle.wire.proofs.Rows.{Numbered, picked, passed, row_passes, and_right}
 use Rattle.record.specs.Types.{code_of}
@@ -84,7 +85,7 @@ module _ (h : HostSession) (f : Fit h) (n : ℕ) (k : failed h.state ≡ false �
       (λ p. picked Went u.answer.complete
       (λ q. picked Went (passes (first (record_rows h r))) (λ _. goes_effect u (b.done q) r.record_type)
       (λ x. goes_failed u (first (record_rows h r)) x
-      (every_first Fails (record_rows h r) refl (refl, (refl, (refl, type_fails (code_of r.record_type) h.identity.identity r))))))
+      (every_first Fails (record_rows h r) refl (refl, (refl, (refl, type_fails (code_of r.record_type) (held h.identity) r))))))
       (λ q. (record { led = refl; held = λ _. b.waits p q ∙ ap (λ (m : ℕ). m + u.answer.consumed) (k w) }, refl)))
       (λ p. goes_failed u u.answer.refusal p (low_fails u.answer.refusal l))
 

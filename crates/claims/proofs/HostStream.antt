@@ -1,6 +1,7 @@
 -- The stream of a host. As long as it has not Failed, the bytes that it took read as the records that it reported, each with the sequence
 -- due, and its state is the one to which they led (`Followed`). Each call keeps it so. Assumes nothing.
 use Prim.Native.Nat.{ℕ, ◌+◌, ◌^◌, ◌≤◌, ◌<◌}
+use Rattle.std.specs.Prelude.{Option, Some}
 use mathlib.Core.Path.{◌≡◌, refl, sym, ap, subst, ◌∙◌}
 use mathlib.Core.Bool.{Bool, true, false, not, ◌&&◌, ◌||◌}
 use mathlib.Core.List.{List, [], ◌∷◌, ◌++◌, append-nil}
@@ -18,9 +19,8 @@ use Rattle.record.specs.declared.types.RecordType.{RecordType}
 use Rattle.record.specs.declared.types.RecordType.TheVariants as Kind
 use Rattle.record.specs.declared.Record.{Record}
 use Rattle.parser.specs.Push.{Push, push, push_stage, held_in, head_with, payload_at, buffered_of}
-use Rattle.session.specs.Checks.{identity, identity_of, last_sequence}
+use Rattle.session.specs.Checks.{held, identity, identity_of, last_sequence}
 use Rattle.session.specs.declared.Identity.{Identity}
-use Rattle.session.specs.declared.OptionalIdentity.{OptionalIdentity}
 use Rattle.host.specs.State.{code, is_detached, is_attaching, is_attached, is_open, is_begun, sound_host, next_host}
 use Rattle.host.specs.Checks.{allowed, order_rows, type_rows, record_rows}
 use Rattle.host.specs.Receive.{Receive, effect, accept, after_push, receive_rows, receive_stage, receive_of}
@@ -111,12 +111,12 @@ pub record Followed (l : HostLog) (h : HostSession) (stage : List ℕ) : Type 0 
   pub low : length records < 2 ^ 64
   pub reads : Reads l.taken records (within (bytes_in h.parser stage))
   pub octets : Octets l.taken
-  pub stands : Stands h.state h.identity.identity (bytes_in h.parser stage) phase
+  pub stands : Stands h.state (held h.identity) (bytes_in h.parser stage) phase
   pub placed : Placed h.parser stage
 
 -- another state and send sequence
 moved : {l : HostLog} {h : HostSession} {stage : List ℕ} (f : Followed l h stage) (s : HostState) (sends : Sequence)
-    → Stands s h.identity.identity (bytes_in h.parser stage) f.phase
+    → Stands s (held h.identity) (bytes_in h.parser stage) f.phase
     → Followed l (record { state = s; parser = h.parser; identity = h.identity; receive_sequence = h.receive_sequence; send_sequence = sends }) stage
 moved f s sends k =
     record { records = f.records; phase = f.phase; events = f.events; due = f.due; low = f.low; reads = f.reads; octets = f.octets; stands = k; placed = f.placed }
@@ -194,8 +194,8 @@ module _ (l : HostLog) (h : HostSession) (stage piece : List ℕ) (o : Octets pi
       nothing_held = λ j. held_bytes (t.parser j) (held_in (t.parser j) left)
 
       -- one that passes the rows
-      accepted : (s : HostState) (i : OptionalIdentity) (e : HostReport) (q : Phase) → Leads f.phase (r, y) e q → eqb r.sequence.0 h.receive_sequence.0 ≡ true
-          → h.receive_sequence.0 < last_sequence → Stands s i.identity [] q
+      accepted : (s : HostState) (i : Option Identity) (e : HostReport) (q : Phase) → Leads f.phase (r, y) e q → eqb r.sequence.0 h.receive_sequence.0 ≡ true
+          → h.receive_sequence.0 < last_sequence → Stands s (held i) [] q
           → Followed (record { taken = l.taken ++ more; events = l.events ++ (e ∷ []) }) (next_host h s u.answer.parser i) left
       accepted s i e q k n m z =
           let same : r.sequence.0 ≡ h.receive_sequence.0 = eqb-true r.sequence.0 h.receive_sequence.0 n in
@@ -210,17 +210,17 @@ module _ (l : HostLog) (h : HostSession) (stage piece : List ℕ) (o : Octets pi
             reads = reads_on more f.reads
                 (subst (λ (x : Record). Reads (bytes_in h.parser stage ++ more) ((x, y) ∷ []) (within (bytes_in u.answer.parser left))) (sym t.fields) (whole_reads left t));
             octets = more_octets;
-            stands = subst (λ (b : List ℕ). Stands s i.identity b q) (sym nothing_held) z;
+            stands = subst (λ (b : List ℕ). Stands s (held i) b q) (sym nothing_held) z;
             placed = placed_next h.parser piece stage f.placed (completed_ready t);
           }
 
       abbrev rows_of : ℕ → List (Bool × Refusal)
-      rows_of k = order_rows h.state k r.sequence.0 h.receive_sequence.0 ++ type_rows k h.identity.identity r
+      rows_of k = order_rows h.state k r.sequence.0 h.receive_sequence.0 ++ type_rows k (held h.identity) r
 
       from_attaching : allowed h.state 6 ≡ true → (e : HostReport) (q : Phase) → Leads attaching (r, y) e q → Leads f.phase (r, y) e q
       from_attaching a e q k = subst (λ (p : Phase). Leads p (r, y) e q) (sym (when_attaching f.stands (left_only (is_attaching h.state) (is_attached h.state) a))) k
 
-      from_attached : allowed h.state 5 ≡ true → (e : HostReport) (q : Phase) → Leads (attached h.identity.identity) (r, y) e q → Leads f.phase (r, y) e q
+      from_attached : allowed h.state 5 ≡ true → (e : HostReport) (q : Phase) → Leads (attached (held h.identity)) (r, y) e q → Leads f.phase (r, y) e q
       from_attached a e q k = subst (λ (p : Phase). Leads p (r, y) e q) (sym (when_attached f.stands (right_only (is_attaching h.state) (is_attached h.state) a))) k
 
       by_type : (k : RecordType) → r.record_type ≡ k → passes (first (rows_of (code_of k))) ≡ true → Got (effect k h u)
@@ -229,16 +229,16 @@ module _ (l : HostLog) (h : HostSession) (stage piece : List ℕ) (o : Octets pi
       by_type Kind.HostAttach c p x = true_not_false x
       by_type Kind.Reset c p x =
           let w = passed (rows_of 3) (refl, (refl, (refl, (refl, (refl, (refl, tt)))))) p in
-          let z : h.identity.identity.epoch.0 < r.epoch.0 =
-          (let g = leb-false r.epoch.0 h.identity.identity.epoch.0 (not-true (leb r.epoch.0 h.identity.identity.epoch.0) w.1.1.1.1.1.0) in omega arith)
+          let z : (held h.identity).epoch.0 < r.epoch.0 =
+          (let g = leb-false r.epoch.0 (held h.identity).epoch.0 (not-true (leb r.epoch.0 (held h.identity).epoch.0) w.1.1.1.1.1.0) in omega arith)
           in
           accepted State.Reset h.identity (reset_event (identity_of r)) ended
-          (from_attached w.0 _ _ (leads_reset r y h.identity.identity (ap code_of c) (same_true r.instance_id h.identity.identity.instance_id w.1.1.1.1.0) z))
+          (from_attached w.0 _ _ (leads_reset r y (held h.identity) (ap code_of c) (same_true r.instance_id (held h.identity).instance_id w.1.1.1.1.0) z))
           w.1.0 (ltb-true h.receive_sequence.0 last_sequence w.1.1.0) (stopped refl refl)
       by_type Kind.Ack c p x = true_not_false x
       by_type Kind.Data c p x =
           let w = passed (rows_of 5) (refl, (refl, (refl, (refl, (refl, tt))))) p in
-          let i : Identity = h.identity.identity in
+          let i : Identity = (held h.identity) in
           let inst : r.instance_id ≡ i.instance_id = same_true r.instance_id i.instance_id w.1.1.1.0 in
           let epoch : r.epoch.0 ≡ i.epoch.0 = eqb-true r.epoch.0 i.epoch.0 w.1.1.1.1.0 in
           let pay : payload_at u.answer.place r.length piece left ≡ y =
@@ -258,7 +258,7 @@ module _ (l : HostLog) (h : HostSession) (stage piece : List ℕ) (o : Octets pi
           (at_start (le-leb (code h.state) 1 (omega (arith, eqb-true (code h.state) 1 (left_only (is_attaching h.state) (is_attached h.state) w.0)))))
       by_type Kind.Ready c p x =
           let w = passed (rows_of 7) (refl, (refl, (refl, (refl, tt)))) p in
-          accepted State.Attached (record { present = true; identity = identity_of r }) (attached_event (identity_of r)) (attached (identity_of r)) (from_attaching w.0 _ _ (leads_ready r y (ap code_of c) w.1.1.1.0))
+          accepted State.Attached (Some (identity_of r)) (attached_event (identity_of r)) (attached (identity_of r)) (from_attaching w.0 _ _ (leads_ready r y (ap code_of c) w.1.1.1.0))
           w.1.0 (ltb-true h.receive_sequence.0 last_sequence w.1.1.0) (in_session refl)
       by_type Kind.Error c p x =
           let w = passed (rows_of 8) (refl, (refl, (refl, tt))) p in

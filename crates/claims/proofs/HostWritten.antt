@@ -7,6 +7,7 @@ use mathlib.Core.List.{List, [], ◌∷◌}
 use lib.ListN.{length, take}
 use lib.Dec.{eqb}
 use Rattle.wire.specs.Bytes.{overlay}
+use Rattle.session.specs.Checks.{held}
 use Rattle.wire.specs.Refusals.{first, passes}
 use Rattle.wire.specs.declared.Refusal.{Refusal}
 use Rattle.wire.proofs.Rows.{picked, passed}
@@ -27,7 +28,7 @@ use Rattle.claims.proofs.WrittenLaws.{laid_writes, nothing_written, take_most, i
 
 -- ---- the figures
 record Noted (l : HostFigures) (h : HostSession) : Type 0 where
-  named : is_attached h.state ≡ true → h.identity.identity ≡ l.identity
+  named : is_attached h.state ≡ true → (held h.identity) ≡ l.identity
   same : h.send_sequence.0 ≡ l.sends
 
 module _ (l : HostFigures) (h : HostSession) (k : Noted l h) where

@@ -2,6 +2,7 @@
 -- since the last Reset event are the payloads of those since the last RESET (`Followed`): each thing that a call can do (`Effect`) keeps it
 -- so. Bytes that begin like the encodings of a list read as its first records (`reads_front`). Assumes nothing.
 use Prim.Native.Nat.{ℕ, ◌+◌, ◌≤◌, ◌<◌, ◌-◌, ◌^◌}
+use Rattle.std.specs.Prelude.{Option, Some}
 use mathlib.Core.Path.{◌≡◌, refl, sym, ap, subst, subst₂, ◌∙◌}
 use mathlib.Core.Bool.{Bool, true, false, not, ◌&&◌}
 use mathlib.Core.List.{List, [], ◌∷◌, ◌++◌, append_assoc, append-nil, map-append}
@@ -14,7 +15,7 @@ use Rattle.wire.proofs.Rows.{Passed, and_right}
 use Rattle.record.specs.Types.{code_of}
 use Rattle.record.specs.declared.Record.{Record}
 use Rattle.parser.specs.Push.{Push, held_in, push_stage}
-use Rattle.session.specs.Checks.{identity, identity_of, same}
+use Rattle.session.specs.Checks.{held, identity, identity_of, same}
 use Rattle.session.specs.declared.Identity.{Identity}
 use Rattle.guest_core.specs.State.{is_failed, is_live, code, is_open}
 use Rattle.guest.specs.Checks.{data_rows, reset_rows, stale}
@@ -38,7 +39,6 @@ use Rattle.claims.proofs.GuestStages.{room_next}
 use Rattle.claims.proofs.GuestTaken.{same_true, same_self}
 use Rattle.claims.proofs.GuestStream.{too_short, held_unfinished}
 use Rattle.claims.specs.Release.{Report, reset_event, data_event, Log, no_log, log, log_of, Progress, no_reset, in_epoch, Leads, leads_reset, leads_data, GuestRecords, no_events, next_event, AllData, no_data, more_data, SinceReset, nothing_yet, since_reset, payloads_of, StreamFollowed, ReleaseNote, ShownAmong, NothingBefore}
-use Rattle.session.specs.declared.OptionalIdentity.{OptionalIdentity}
 use lib.Dec.{leb}
 use Rattle.wire.specs.Bytes.{Octets, end}
 use Rattle.claims.proofs.Octets.{octets_append, octets_take}
@@ -58,7 +58,7 @@ all_more {n = n} x (more_data {xs = xs} d m r ds) c k s = let q : x.0.sequence.0
 -- ---- the session goes on from the last RESET
 -- while it is live, it holds the RESET's identity and the sequence due; and it has left Detached and Attaching for good
 record Holds (g : GuestSession) (i : Identity) (due : ℕ) : Type 0 where
-  held : g.identity ≡ record { present = true; identity = i }
+  held : g.identity ≡ Some i
   sequence : g.receive_sequence.0 ≡ due
 
 data Origin (g : GuestSession) : List (Record × List ℕ) → List (Record × List ℕ) → Progress → Type 0 where
@@ -92,11 +92,11 @@ record Due (g : GuestSession) (i : Identity) (due : ℕ) (r : Record) : Type 0 w
 data_due : (g : GuestSession) (i : Identity) (due : ℕ) (r : Record) → Holds g i due → Passed (data_rows g r) → Due g i due r
 data_due g i due r k rows =
     let number : r.sequence.0 ≡ g.receive_sequence.0 = eqb-true _ _ rows.0 in
-    let inst : r.instance_id ≡ g.identity.identity.instance_id = same_true _ _ rows.1.0 in
-    let epoch : r.epoch.0 ≡ g.identity.identity.epoch.0 = eqb-true _ _ rows.1.1.0 in
+    let inst : r.instance_id ≡ (held g.identity).instance_id = same_true _ _ rows.1.0 in
+    let epoch : r.epoch.0 ≡ (held g.identity).epoch.0 = eqb-true _ _ rows.1.1.0 in
     let next : g.receive_sequence.0 < 18446744073709551615 = ltb-true _ _ rows.1.1.1.0 in
     record {
-      named = (λ j. identity (inst j) (epoch j)) ∙ ap (λ (x : OptionalIdentity). x.identity) k.held;
+      named = (λ j. identity (inst j) (epoch j)) ∙ ap (λ (x : Option Identity). held x) k.held;
       sequence = number ∙ k.sequence;
       low = omega (arith, k.sequence);
     }
@@ -145,7 +145,7 @@ reset_leads {g} r y (somewhere xs d v due k ds n b f) o c rows =
     let low : r.sequence.0 < 18446744073709551615 = ltb-true _ _ rows.1.1.0 in
     let h = (f (open_live g.state o b)).held in
     let fresh : not (same r.instance_id d.instance_id && leb r.epoch.0 d.epoch.0) ≡ true =
-    subst (λ (i : OptionalIdentity). not (stale i r.instance_id r.epoch.0) ≡ true) h rows.1.0
+    subst (λ (i : Option Identity). not (stale i r.instance_id r.epoch.0) ≡ true) h rows.1.0
     in
     leads_reset (in_epoch (identity_of d) due) r y c rows.0 (λ x. above r.instance_id d.instance_id r.epoch.0 d.epoch.0 x fresh) (omega arith)
 

@@ -1,6 +1,6 @@
 -- The worked examples M1 to M10 of 01, of the rules themselves: sessions and records that they speak of, then the examples, gathered in
 -- `MarkedExamples`. A receive is given the length of its stage and the payload bytes held, so that no stage is written out.
-use Rattle.std.specs.Prelude.{ℕ, ◌+◌, ◌-◌, ◌^◌, ◌≤◌, ◌≡◌, true, List, [], ◌∷◌, ◌++◌, length, replicate}
+use Rattle.std.specs.Prelude.{ℕ, ◌+◌, ◌-◌, ◌^◌, ◌≤◌, ◌≡◌, List, [], ◌∷◌, ◌++◌, length, replicate, Some}
 use Rattle.wire.specs.Bytes.{to_le}
 use Rattle.wire.specs.Refusals.{refusal, none, passes}
 use Rattle.wire.specs.Header.{header_bytes}
@@ -44,7 +44,7 @@ guest_in s due next window outstanding =
     record {
       state = s;
       parser = fresh;
-      identity = record { present = true; identity = seventh };
+      identity = Some seventh;
       receive_sequence = record { 0 = due };
       send_sequence = record { 0 = next };
       window = window;
@@ -89,7 +89,7 @@ pub record ResetAccepted (g : GuestSession) (instance : List ℕ) (epoch sequenc
   pub refusal : (received g (reset instance epoch sequence)).answer.refusal ≡ none
   pub event : (received g (reset instance epoch sequence)).answer.event ≡ Event.Reset
   pub reported : (received g (reset instance epoch sequence)).answer.identity ≡ identity instance epoch
-  pub held : (received g (reset instance epoch sequence)).answer.session.identity ≡ record { present = true; identity = identity instance epoch }
+  pub held : (received g (reset instance epoch sequence)).answer.session.identity ≡ Some (identity instance epoch)
   pub state : (received g (reset instance epoch sequence)).answer.session.state ≡ State.Resetting
 
 -- a DATA of one byte that a guest accepts: it reports the event, hands out the byte, and adds 1 to what is outstanding

@@ -1,11 +1,10 @@
 -- What a session's asks answer, and which calls change nothing, over every list of calls: for a guest, then for a host. The figures are
 -- folds over calls and answers, and never read the session. Gathered in `StateClaims`.
-use Rattle.std.specs.Prelude.{ℕ, ◌≡◌, Bool, true, false, ◌||◌, List, [], ◌∷◌, eqb}
+use Rattle.std.specs.Prelude.{ℕ, ◌≡◌, Bool, true, false, ◌||◌, List, [], ◌∷◌, eqb, Option, Some, None}
 use Rattle.wire.specs.Refusals.{pick, none, passes}
 use Rattle.wire.specs.declared.Refusal.{Refusal}
 use Rattle.session.specs.Checks.{no_identity}
 use Rattle.session.specs.declared.Identity.{Identity}
-use Rattle.session.specs.declared.OptionalIdentity.{OptionalIdentity}
 use Rattle.guest_core.specs.State as GuestIs
 use Rattle.guest_core.specs.declared.GuestState.{GuestState}
 use Rattle.guest_core.specs.declared.GuestState.TheVariants as State
@@ -59,19 +58,19 @@ state_after s cs = history guest_state State.Detached (trace (fresh s) cs)
 
 -- ---- the guest's identity and window
 -- 01, Guest: "An accepted RESET ..: identity becomes its own"
-abbrev pub named_by : OptionalIdentity → GuestEvent → Identity → OptionalIdentity
+abbrev pub named_by : Option Identity → GuestEvent → Identity → Option Identity
 named_by i Event.Nothing new = i
-named_by i Event.Reset new = record { present = true; identity = new }
+named_by i Event.Reset new = Some new
 named_by i Event.Data new = i
 
-unfoldable pub identity_after : OptionalIdentity → Call → Answer → OptionalIdentity
+unfoldable pub identity_after : Option Identity → Call → Answer → Option Identity
 identity_after i (receive piece o lent) a = named_by i (event_of a) (identity_in a)
 identity_after i (write w o at) a = i
 identity_after i disconnect a = i
 identity_after i (ask q) a = i
 
-abbrev pub identity_by : List ℕ → List Call → OptionalIdentity
-identity_by s cs = history identity_after (record { present = false; identity = no_identity }) (trace (fresh s) cs)
+abbrev pub identity_by : List ℕ → List Call → Option Identity
+identity_by s cs = history identity_after None (trace (fresh s) cs)
 
 -- 01, Shared checks: "A guest's `window` answers none unless Active"
 abbrev pub window_in : GuestState → ℕ → WindowAnswer
@@ -143,10 +142,10 @@ host_state_after s cs = H.host_history host_state HostStates.Detached (H.fresh_p
 
 -- ---- the host's identity
 -- 01, Host: "READY sets the identity (Attached) ..; Reset's identity is reported, not stored"
-abbrev pub host_named_by : OptionalIdentity → HostEvent → Identity → OptionalIdentity
+abbrev pub host_named_by : Option Identity → HostEvent → Identity → Option Identity
 host_named_by i HostEvents.Nothing new = i
 host_named_by i HostEvents.Wait new = i
-host_named_by i HostEvents.Attached new = record { present = true; identity = new }
+host_named_by i HostEvents.Attached new = Some new
 host_named_by i HostEvents.Rejected new = i
 host_named_by i HostEvents.Data new = i
 host_named_by i HostEvents.Reset new = i
@@ -160,11 +159,11 @@ host_identity_in (H.told_state a) = no_identity
 host_identity_in (H.told_identity a) = no_identity
 host_identity_in (H.told_needed a) = no_identity
 
-unfoldable pub host_identity_after : OptionalIdentity → HostCall → HostReply → OptionalIdentity
+unfoldable pub host_identity_after : Option Identity → HostCall → HostReply → Option Identity
 host_identity_after i c r = host_named_by i (host_event_of r.answer) (host_identity_in r.answer)
 
-abbrev pub host_identity_by : List ℕ → List HostCall → OptionalIdentity
-host_identity_by s cs = H.host_history host_identity_after (record { present = false; identity = no_identity }) (H.fresh_place s) cs
+abbrev pub host_identity_by : List ℕ → List HostCall → Option Identity
+host_identity_by s cs = H.host_history host_identity_after None (H.fresh_place s) cs
 
 -- all replies, with all their bytes
 unfoldable pub host_replies : HostPlace → List HostCall → List HostReply

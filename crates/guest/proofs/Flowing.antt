@@ -6,6 +6,7 @@ use mathlib.Core.Bool.{Bool, true, false, not, ◌&&◌}
 use mathlib.Core.List.{List}
 use native.Mathlib.Omega.{arith}
 use lib.ListN.{length, take, drop}
+use Rattle.std.specs.Prelude.{Some}
 use lib.Dec.{eqb, leb, ltb}
 use borrow.Author.Tests.{eq-eqb, eqb-true, lt-ltb, ltb-true, leb-true, not-true, not-false}
 use Rattle.wire.specs.Bytes.{copied}
@@ -23,10 +24,10 @@ use Rattle.parser.specs.declared.Place.TheVariants.{Piece, Stage}
 use Rattle.parser.specs.declared.Pushed.{Pushed}
 use Rattle.parser.specs.declared.RecordParser.{RecordParser}
 use Rattle.parser.proofs.Cases.{type_code, length_low, sound_passes, body_waits, body_piece, body_stage_lem, head_waits, head_checked, sound_goes, sound_room, open_taken}
-use Rattle.session.specs.Checks.{same, no_identity, last_sequence}
+use Rattle.session.specs.Checks.{same, held, no_identity, last_sequence}
 use Rattle.wire.specs.declared.Refusal.{Refusal}
 use Rattle.session.specs.declared.Identity.{Identity}
-use Rattle.guest_core.specs.State.{code, active_guest, with_state}
+use Rattle.guest_core.specs.State.{code, is_open, active_guest, with_state}
 use Rattle.guest_core.specs.declared.GuestSession.{GuestSession}
 use Rattle.guest_core.proofs.Soundness.{active_state, active_low, active_sound}
 use Rattle.guest.specs.Checks.{data_rows}
@@ -91,20 +92,21 @@ accepted_is n size event place i x ei ex = λ j. record { identity = ei j; refus
 pub takes_none : (b : Bool) → false ≡ true → b ≡ true
 takes_none b e = cc
 
-pub takes_all : (g : GuestSession) (h : List ℕ) (d : Bool) (s : Sequence) (i : List ℕ) (q : Bool) (e : Epoch) (l m : ℕ) → d ≡ eqb (type_of h) 5 && passes (header_checks h) → not d ≡ false
-    → s.0 ≡ sequence_of h → s.0 ≡ g.receive_sequence.0 → i ≡ instance_of h → q ≡ same i g.identity.identity.instance_id → not q ≡ false
-    → e.0 ≡ epoch_of h → e.0 ≡ g.identity.identity.epoch.0 → g.receive_sequence.0 < 18446744073709551615 → l ≡ length_of h → m ≡ g.window - g.outstanding → leb l m ≡ true
+pub takes_all : (g : GuestSession) (h : List ℕ) (k : Identity) → g.identity ≡ Some k → (d : Bool) (s : Sequence) (i : List ℕ) (q : Bool) (e : Epoch) (l m : ℕ) → d ≡ eqb (type_of h) 5 && passes (header_checks h) → not d ≡ false
+    → s.0 ≡ sequence_of h → s.0 ≡ g.receive_sequence.0 → i ≡ instance_of h → q ≡ same i k.instance_id → not q ≡ false
+    → e.0 ≡ epoch_of h → e.0 ≡ k.epoch.0 → g.receive_sequence.0 < 18446744073709551615 → l ≡ length_of h → m ≡ g.window - g.outstanding → leb l m ≡ true
     → takes_data g h ≡ true
 unfolding takes_data record_with
-takes_all g h d s i q e l m ed nd es s1 ei eq nq ee e1 low el em lm =
+takes_all g h k ek d s i q e l m ed nd es s1 ei eq nq ee e1 low el em lm =
+    let name : k ≡ held g.identity = ap held (sym ek) in
     simp (
       sym ed ∙ not-false d nd,
       pass_all (data_rows g (record_of h)) (
         eq-eqb (sequence_of h) g.receive_sequence.0 (sym es ∙ s1),
         (
-          ap (λ (x : List ℕ). same x g.identity.identity.instance_id) (sym ei) ∙ sym eq ∙ not-false q nq,
+          sym (λ j. same (ei j) (name j).instance_id) ∙ sym eq ∙ not-false q nq,
           (
-            eq-eqb (epoch_of h) g.identity.identity.epoch.0 (sym ee ∙ e1),
+            eq-eqb (epoch_of h) (held g.identity).epoch.0 (sym ee ∙ e1 ∙ ap (λ (x : Identity). x.epoch.0) name),
             (lt-ltb g.receive_sequence.0 last_sequence low, ((λ j. leb (sym el j) (sym em j)) ∙ lm, tt)),
           ),
         ),
@@ -149,7 +151,7 @@ module _ (g : GuestSession) (h : List ℕ) (t : takes_data g h ≡ true) where
       let c : code_of (record_of h).record_type ≡ 5 = type_code h takes_passes ∙ takes_five in
       let z : (first (data_rows g (record_of h))).number ≡ 0 = eqb-true (first (data_rows g (record_of h))).number 0 takes_rows in
       push_completes g u _ refl refl
-      (accept_data_lem g u (code_of (record_of h).record_type) _ refl (code g.state) (λ e. omega arith) c refl three
+      (accept_data_lem g u _ true (sym (simp (c, three))) refl (λ e. let w : ◌≡◌ {A = ℕ} 5 3 = sym c ∙ ap code_of e in omega arith)
       (data_done g u (first (data_rows g (record_of h))) refl z none no_identity (stepped_guest (hands_out g.receive_sequence.0 (length_of h) n place) h g) refl refl refl))
 
 -- ---- steps
@@ -286,8 +288,8 @@ module _ (g : GuestSession) (piece stage : List ℕ) where
     flow_pushes : (u : Pushed) (left : List ℕ) (r : Received) → pushing.outcome u left ≡ push_of g.parser piece stage → r ≡ (after_push g (told u)).answer → outcome r left ≡ receive_of g piece stage
     flow_pushes u left r eu er =
         let a : active_guest g ≡ true = flow_active g (length stage) f in
-        receive_pushes g piece stage r true (sym (active_sound g a (flow_sound g (length stage) f))) refl (code g.state) (leb 1 (code g.state) && leb (code g.state) 3)
-        (flow_whole g (length stage) f) refl refl u left (ap (λ (j : ℕ). not (leb 1 j && leb j 3)) (active_state g a)) eu er
+        receive_pushes g piece stage r true (sym (active_sound g a (flow_sound g (length stage) f))) refl (is_open g.state)
+        (flow_whole g (length stage) f) refl u left (ap (λ (j : ℕ). not (leb 1 j && leb j 3)) (active_state g a)) eu er
 
     -- the payload in progress stays unfinished
     pub open_way : (b : Bool) (left : List ℕ) (x : Refusal) (a : Answer) (s : GuestSession)

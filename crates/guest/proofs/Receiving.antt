@@ -1,7 +1,7 @@
 -- The cases of a receive, a law for each `return` of the code. The answer of a receive is made of the push's answer alone. Assumes nothing.
 use Prim.Native.Nat.{ℕ, ◌+◌, ◌-◌, ◌≤◌, ◌<◌}
 use mathlib.Core.Path.{◌≡◌, refl, sym, ap, ◌∙◌}
-use mathlib.Core.Bool.{Bool, true, false, not, ◌&&◌, ◌||◌}
+use mathlib.Core.Bool.{Bool, true, false, not, ◌&&◌, ◌||◌, and-true, and-false}
 use mathlib.Core.List.{List, [], ◌∷◌}
 use native.Mathlib.Omega.{arith}
 use lib.ListN.{length}
@@ -11,6 +11,8 @@ use Rattle.wire.specs.Refusals.{pick, refusal, none, first, passes}
 use Rattle.wire.specs.declared.Refusal.{Refusal}
 use Rattle.wire.proofs.Rows.{passed, pass_all, row_stops, row_passes}
 use Rattle.record.specs.Types.{code_of}
+use Rattle.record.specs.declared.types.RecordType.{RecordType}
+use Rattle.record.specs.declared.types.RecordType.TheVariants as Kind
 use Rattle.parser.specs.Push.{Push, push, push_stage, held_in, push_of}
 use Rattle.parser.specs.Push as pushing
 use Rattle.parser.specs.declared.RecordParser.{RecordParser}
@@ -18,22 +20,15 @@ use Rattle.parser.specs.declared.Place.TheVariants.{Piece}
 use Rattle.parser.specs.declared.Pushed.{Pushed}
 use Rattle.session.specs.Checks.{no_identity, identity_of, last_sequence}
 use Rattle.session.specs.declared.Identity.{Identity}
-use Rattle.guest_core.specs.State.{code, is_open, is_active, sound_guest, with_state, reset_session, data_guest}
+use Rattle.guest_core.specs.State.{is_open, is_active, sound_guest, with_state, reset_session, data_guest}
 use Rattle.guest.specs.Checks.{reset_rows, data_rows}
 use Rattle.guest.specs.Receive.{type_row, is_reset, Receive, answered, refused, told, accept_reset, accept_data, accept, after_push, receive_rows, receive, receive_stage, outcome, receive_of}
+use Rattle.guest_core.specs.declared.GuestState.{GuestState}
 use Rattle.guest_core.specs.declared.GuestState.TheVariants as State
+use Rattle.guest_core.proofs.States.{same_state, same_is}
 use Rattle.guest.specs.declared.accept.GuestEvent.TheVariants as Event
 use Rattle.guest_core.specs.declared.GuestSession.{GuestSession}
 use Rattle.guest.specs.declared.accept.Received.{Received}
-
--- ---- the states that receive
-pub open_low : (s : ℕ) → s < 1 → false ≡ leb 1 s && leb s 3
-open_low s h = simp (lt-leb 1 s h)
-
-pub open_high : (s : ℕ) → 1 ≤ s → leb s 3 ≡ leb 1 s && leb s 3
-open_high s h = simp (le-leb 1 s h)
-
-pub ruleset opening = (open_low, open_high)
 
 -- ---- answers
 pub refuse_is : (g : GuestSession) (x : Refusal) (i : Identity) → i ≡ no_identity
@@ -93,31 +88,62 @@ pub ruleset accepting-data = (data_fails, data_done)
 pub ruleset data-asks = (data_follows, data_fits)
 
 -- ---- a whole record
-module _ (g : GuestSession) (u : Pushed) (t : ℕ) (r : Received) (et : t ≡ code_of u.«record».record_type) where
-  pub accept_reset_lem : t ≡ 3 → r ≡ (accept_reset g (told u)).answer → r ≡ (accept g (told u)).answer
-  unfolding accept first
-  accept_reset_lem e q = simp (accept, ← et, eq-eqb t 3 e) q
+module _ (s : GuestState) (t : RecordType) where
+  pub taken_reset : t ≡ Kind.Reset → true ≡ eqb (code_of t) 3 || (is_active s && eqb (code_of t) 5)
+  taken_reset e = sym (ap (λ (k : RecordType). eqb (code_of k) 3 || (is_active s && eqb (code_of k) 5)) e)
 
-  pub accept_data_lem : (k : ℕ) → (t ≡ 3 → ⊥) → t ≡ 5 → k ≡ code g.state → k ≡ 3 → r ≡ (accept_data g (told u)).answer → r ≡ (accept g (told u)).answer
-  unfolding accept first
-  accept_data_lem k n e ek e3 q = simp (accept, ← et, ne_eqb t 3 n, eq-eqb t 5 e, ← ek, eq-eqb k 3 e3) q
+  pub taken_data : (b : Bool) → t ≡ Kind.Data → b ≡ same_state s State.Active → b ≡ eqb (code_of t) 3 || (is_active s && eqb (code_of t) 5)
+  taken_data b e q =
+      q ∙ same_is s State.Active ∙ sym (and-true (is_active s)) ∙ sym (ap (λ (k : RecordType). eqb (code_of k) 3 || (is_active s && eqb (code_of k) 5)) e)
 
-  module _ (x : Refusal) (n : t ≡ 3 → ⊥) (ex : x ≡ refusal 10 t 0 0) (er : r ≡ refused x (with_state g State.Failed u.parser)) where
-    refuses : eqb t 3 || (is_active g.state && eqb t 5) ≡ false → r ≡ (accept g (told u)).answer
+  pub taken_other : (t ≡ Kind.Reset → ⊥) → (t ≡ Kind.Data → ⊥) → false ≡ eqb (code_of t) 3 || (is_active s && eqb (code_of t) 5)
+  taken_other n3 n5 = go t n3 n5
+    where
+      go : (k : RecordType) → (k ≡ Kind.Reset → ⊥) → (k ≡ Kind.Data → ⊥) → false ≡ eqb (code_of k) 3 || (is_active s && eqb (code_of k) 5)
+      go Kind.GuestAttach a b = sym (and-false (is_active s))
+      go Kind.HostAttach a b = sym (and-false (is_active s))
+      go Kind.Reset a b = absurd (a refl)
+      go Kind.Ack a b = sym (and-false (is_active s))
+      go Kind.Data a b = absurd (b refl)
+      go Kind.Wait a b = sym (and-false (is_active s))
+      go Kind.Ready a b = sym (and-false (is_active s))
+      go Kind.Error a b = sym (and-false (is_active s))
+      go Kind.Credit a b = sym (and-false (is_active s))
+
+pub ruleset takings = (taken_reset, taken_data, taken_other)
+
+module _ (g : GuestSession) (u : Pushed) (r : Received) (b : Bool) (eb : b ≡ eqb (code_of u.«record».record_type) 3 || (is_active g.state && eqb (code_of u.«record».record_type) 5)) where
+  abbrev t : RecordType
+  t = u.«record».record_type
+
+  pub accept_10 : (k : ℕ) (x : Refusal) → not b ≡ true → k ≡ code_of t → x ≡ refusal 10 k 0 0 → r ≡ refused x (with_state g State.Failed u.parser) → r ≡ (accept g (told u)).answer
+  unfolding accept first
+  accept_10 k x n ek ex er =
+      simp (accept, ← eb, not-true b n) (er ∙ ap (λ (y : Refusal). refused y (with_state g State.Failed u.parser)) (ex ∙ ap (λ (j : ℕ). refusal 10 j 0 0) ek))
+
+  module _ (n : not b ≡ false) where
+    pub accept_reset_lem : t ≡ Kind.Reset → r ≡ (accept_reset g (told u)).answer → r ≡ (accept g (told u)).answer
     unfolding accept first
-    refuses f = simp (accept, ← et, f) (er ∙ ap (λ (y : Refusal). refused y (with_state g State.Failed u.parser)) ex)
+    accept_reset_lem e q = simp (accept, ← eb, not-false b n, ap (λ (k : RecordType). eqb (code_of k) 3) e) q
 
-    pub accept_other : (t ≡ 5 → ⊥) → r ≡ (accept g (told u)).answer
-    accept_other m = refuses (simp (ne_eqb t 3 n, ne_eqb t 5 m) (go (is_active g.state)))
+    pub accept_data_lem : (t ≡ Kind.Reset → ⊥) → r ≡ (accept_data g (told u)).answer → r ≡ (accept g (told u)).answer
+    unfolding accept
+    accept_data_lem m q =
+        simp (pass_all (type_row g.state (code_of t) ∷ []) (sym eb ∙ not-false b n, tt))
+        (q ∙ sym (ap (λ (c : Bool). (pick c (accept_reset g (told u)) (accept_data g (told u))).answer) (not_reset t m)))
       where
-        go : (b : Bool) → b && false ≡ false
-        go true = refl
-        go false = refl
+        not_reset : (k : RecordType) → (k ≡ Kind.Reset → ⊥) → eqb (code_of k) 3 ≡ false
+        not_reset Kind.GuestAttach a = refl
+        not_reset Kind.HostAttach a = refl
+        not_reset Kind.Reset a = absurd (a refl)
+        not_reset Kind.Ack a = refl
+        not_reset Kind.Data a = refl
+        not_reset Kind.Wait a = refl
+        not_reset Kind.Ready a = refl
+        not_reset Kind.Error a = refl
+        not_reset Kind.Credit a = refl
 
-    pub accept_idle : (k : ℕ) → k ≡ code g.state → (k ≡ 3 → ⊥) → r ≡ (accept g (told u)).answer
-    accept_idle k ek m = refuses (simp (ne_eqb t 3 n, ← ek, ne_eqb k 3 m))
-
-pub ruleset accepting = (accept_reset_lem, accept_data_lem, accept_other, accept_idle)
+pub ruleset accepting = (accept_10, accept_reset_lem, accept_data_lem)
 
 -- ---- after the push
 module _ (g : GuestSession) (u : Pushed) (r : Received) where
@@ -183,22 +209,19 @@ module _ (g : GuestSession) (piece stage : List ℕ) (r : Received) where
       pub receive_21 : (x : Refusal) → length stage < 65536 → x ≡ refusal 21 0 0 0 → r ≡ refused x g → outcome r stage ≡ receive_of g piece stage
       receive_21 x l ex er = stops x (row_passes _ _ x _ sound (row_stops _ _ x _ (lt-leb 65536 (length stage) l) ex)) (ap passes ex) er
 
-      module _ (k : ℕ) (o : Bool) (l : 65536 ≤ length stage) (ek : k ≡ code g.state) (eo : o ≡ leb 1 k && leb k 3) where
+      module _ (o : Bool) (l : 65536 ≤ length stage) (eo : o ≡ is_open g.state) where
         long : leb 65536 (length stage) ≡ true
         long = le-leb 65536 (length stage) l
 
-        opened : o ≡ is_open g.state
-        opened = eo ∙ ap (λ (j : ℕ). leb 1 j && leb j 3) ek
-
         pub receive_20 : (x : Refusal) → not o ≡ true → x ≡ refusal 20 0 0 0 → r ≡ refused x g → outcome r stage ≡ receive_of g piece stage
         receive_20 x m ex er =
-            stops x (row_passes _ _ x _ sound (row_passes _ _ x _ long (row_stops _ _ x _ (sym opened ∙ not-true o m) ex))) (ap passes ex) er
+            stops x (row_passes _ _ x _ sound (row_passes _ _ x _ long (row_stops _ _ x _ (sym eo ∙ not-true o m) ex))) (ap passes ex) er
 
         pub receive_pushes : (u : Pushed) (st : List ℕ) → not o ≡ false → pushing.outcome u st ≡ push_of g.parser piece stage → r ≡ (after_push g (told u)).answer
             → outcome r st ≡ receive_of g piece stage
         unfolding receive_of receive receive_stage push_of
         receive_pushes u st m eu er =
-            let f : passes (first (receive_rows g (length stage))) ≡ true = pass_all (receive_rows g (length stage)) (sound, (long, (sym opened ∙ not-false o m, tt))) in
+            let f : passes (first (receive_rows g (length stage))) ≡ true = pass_all (receive_rows g (length stage)) (sound, (long, (sym eo ∙ not-false o m, tt))) in
             let a : u ≡ (push g.parser (length stage) (held_in g.parser stage) piece).answer = ap (λ (x : pushing.Outcome). x.pushed) eu in
             let c : st ≡ push_stage g.parser piece stage = ap (λ (x : pushing.Outcome). x.stage) eu in
             simp f

@@ -1,8 +1,9 @@
 // What a guest's session makes of a push (01, "receive"), by value: `receive_any` is any receive, on
 // which the fast path falls back.
-ghost use Rattle.std.specs.Prelude.{◌≡◌, ◌&&◌, ◌+◌, ◌≤◌, ◌<◌, leb};
+ghost use Rattle.std.specs.Prelude.{◌≡◌, ◌&&◌, ◌||◌, ◌+◌, ◌≤◌, ◌<◌, eqb};
+ghost use Rattle.record.specs.Types.{code_of};
 ghost use Rattle.session.specs.Checks.{last_sequence};
-ghost use Rattle.guest_core.specs.State.{with_state, reset_session, data_guest};
+ghost use Rattle.guest_core.specs.State.{is_open, is_active, with_state, reset_session, data_guest};
 ghost use Rattle.guest_core.specs.declared.GuestState.TheVariants as State;
 ghost use Rattle.guest.specs.Receive.{told, refused, accept_reset, accept_data, accept, after_push, receive_of};
 ghost use Rattle.guest.specs.Receive as receiving;
@@ -12,12 +13,13 @@ use guest_core::{GuestSession, GuestState};
 use outer::OUTER_MAX_PAYLOAD;
 use parser::push::push;
 use parser::{Place, Pushed, RecordParser};
-use session::{Identity, OptionalIdentity, identity_in, no_identity};
+use record::types::RecordType;
+use session::{Identity, identity_in, no_identity};
 use wire::{Refusal, Sequence};
 
 // What a receive reports. The identity of a reset stands beside it in the answer; the bytes of data
 // are had by `payload`.
-#[derive(Clone, Copy)]
+#[derive(Clone, Copy, Debug, PartialEq, Eq)]
 pub enum GuestEvent {
     Nothing,
     Reset,
@@ -37,13 +39,13 @@ pub struct Received {
 }
 
 // Whether a guest receives in a state.
-fn is_open(state: u8) -> bool
-    ensures { result ≡ leb 1 state && leb state 3 }
+fn is_open(state: GuestState) -> bool
+    ensures { result ≡ is_open state }
 {
-    if state < 1 {
-        return false;
-    }
-    state <= 3
+    matches!(
+        state,
+        GuestState::Attaching | GuestState::Resetting | GuestState::Active
+    )
 }
 
 // A receive that is refused, with the session it leaves.
@@ -113,10 +115,7 @@ fn reset_session(parser: RecordParser, identity: Identity, sequence: Sequence) -
 {
     GuestSession {
         parser,
-        identity: OptionalIdentity {
-            present: true,
-            identity,
-        },
+        identity: Some(identity),
         receive_sequence: Sequence(sequence.0 + 1),
         send_sequence: Sequence(0),
         window: 0,
@@ -158,25 +157,34 @@ fn accept_data(session: GuestSession, pushed: Pushed) -> Received
     }
 }
 
+// Whether a guest in a state takes records of a type: Reset, or Data when Active.
+fn is_taken(state: GuestState, kind: RecordType) -> bool
+    ensures { result ≡ eqb (code_of kind) 3 || (is_active state && eqb (code_of kind) 5) }
+{
+    match kind {
+        RecordType::Reset => true,
+        RecordType::Data => state == GuestState::Active,
+        _ => false,
+    }
+}
+
 // A whole record: 10, then by its type.
 fn accept_record(session: GuestSession, pushed: Pushed) -> Received
     requires { session.outstanding ≤ session.window }
     ensures { result ≡ (accept session (told pushed)).answer }
 {
-    let record = pushed.record;
-    let record_type = record.record_type;
-    let code = record_type.code();
-    if code == 3 {
-        return accept_reset(session, pushed);
+    let kind = pushed.record.record_type;
+    if !is_taken(session.state, kind) {
+        return fail(
+            session,
+            pushed.parser,
+            Refusal::new(10, kind.code() as u64, 0, 0),
+        );
     }
-    if code != 5 {
-        return fail(session, pushed.parser, Refusal::new(10, code as u64, 0, 0));
+    match kind {
+        RecordType::Reset => accept_reset(session, pushed),
+        _ => accept_data(session, pushed),
     }
-    let state = session.state;
-    if state.number() != 3 {
-        return fail(session, pushed.parser, Refusal::new(10, code as u64, 0, 0));
-    }
-    accept_data(session, pushed)
 }
 
 // After the push: its refusal, no record yet, or a whole record.
@@ -219,8 +227,7 @@ pub(crate) fn receive_any(session: GuestSession, piece: &[u8], stage: &mut [u8])
     if stage.len() < OUTER_MAX_PAYLOAD {
         return refuse(session, Refusal::new(21, 0, 0, 0));
     }
-    let state = session.state;
-    if !is_open(state.number()) {
+    if !is_open(session.state) {
         return refuse(session, Refusal::new(20, 0, 0, 0));
     }
     after_push(session, push(session.parser, piece, stage))

@@ -8,36 +8,30 @@ use guest_core::GuestSession;
 use record::Record;
 use record::types::RecordType;
 use session::checks::{check_identity, check_sequence};
-use session::{
-    Identity, OptionalIdentity, identity_in, next_sequence, record_identity, same_instance,
-};
+use session::{Identity, held, identity_in, next_sequence, record_identity, same_instance};
 use wire::{Refusal, Sequence};
 
 // Whether a RESET does not advance the epoch of an identity that is held.
-fn is_stale(current: OptionalIdentity, actual: Identity) -> bool
+fn is_stale(current: Option<Identity>, actual: Identity) -> bool
     ensures { result ≡ stale current actual.instance_id actual.epoch.0 }
 {
-    if !current.present {
-        return false;
+    match current {
+        Some(held) => {
+            same_instance(actual.instance_id, held.instance_id) && actual.epoch.0 <= held.epoch.0
+        }
+        None => false,
     }
-    let current_instance = current.identity.instance_id;
-    let actual_instance = actual.instance_id;
-    if !same_instance(actual_instance, current_instance) {
-        return false;
-    }
-    actual.epoch.0 <= current.identity.epoch.0
 }
 
 // What stops a RESET: 11, 14, 16.
-pub(crate) fn check_reset(current: OptionalIdentity, record: Record) -> Refusal
+pub(crate) fn check_reset(current: Option<Identity>, record: Record) -> Refusal
     ensures { result ≡ first (reset_rows current «record») }
 {
-    let carried = record_identity(record);
-    if !carried.present {
+    let Some(carried) = record_identity(record) else {
         return Refusal::new(11, 3, 0, 0);
-    }
-    if is_stale(current, identity_in(record)) {
-        return Refusal::new(14, current.identity.epoch.0, record.epoch.0, 0);
+    };
+    if is_stale(current, carried) {
+        return Refusal::new(14, held(current).epoch.0, record.epoch.0, 0);
     }
     let next = next_sequence(record.sequence, RecordType::Reset);
     next.refusal
@@ -76,7 +70,7 @@ pub(crate) fn check_data(session: GuestSession, record: Record) -> Refusal
     if sequence.number != 0 {
         return sequence;
     }
-    let identity = check_identity(identity_in(record), session.identity.identity);
+    let identity = check_identity(identity_in(record), held(session.identity));
     if identity.number != 0 {
         return identity;
     }

@@ -14,7 +14,7 @@ use guest_core::GuestSession;
 use outer::{OUTER_HEADER_LEN, OUTER_MAX_PAYLOAD};
 use parser::{Place, RecordParser};
 use record::header::is_data;
-use session::{Identity, OptionalIdentity, no_identity, same_instance};
+use session::{Identity, no_identity, same_instance};
 use wire::copying::copy_at;
 use wire::parts::filled;
 use wire::{Refusal, Sequence, fields};
@@ -101,17 +101,19 @@ fn takes(session: GuestSession, header: &[u8; 44]) -> bool
     requires { session.outstanding ≤ session.window }
     ensures { result ≡ true → takes_data session header.now ≡ true }
 {
+    let Some(identity) = session.identity else {
+        return false;
+    };
     if !is_data(header) {
         return false;
     }
     if fields::sequence(header).0 != session.receive_sequence.0 {
         return false;
     }
-    let instance_id = session.identity.identity.instance_id;
-    if !same_instance(fields::instance_id(header), instance_id) {
+    if !same_instance(fields::instance_id(header), identity.instance_id) {
         return false;
     }
-    if fields::epoch(header).0 != session.identity.identity.epoch.0 {
+    if fields::epoch(header).0 != identity.epoch.0 {
         return false;
     }
     if u64::MAX <= session.receive_sequence.0 {
@@ -244,16 +246,13 @@ fn apart(session: GuestSession) -> GuestSession
     ensures { result ≡ session }
 {
     let parser = session.parser;
-    let identity = session.identity.identity;
+    let identity = session.identity;
     let receive_sequence = session.receive_sequence;
     let send_sequence = session.send_sequence;
     let state = session.state;
     GuestSession {
         parser,
-        identity: OptionalIdentity {
-            present: session.identity.present,
-            identity,
-        },
+        identity,
         receive_sequence,
         send_sequence,
         window: session.window,

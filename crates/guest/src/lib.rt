@@ -18,5 +18,5 @@ pub use guest_core::control::{Closed, acknowledge, attach, disconnect};
 pub use guest_core::send::{credit, send};
 pub use guest_core::{GuestSession, GuestState};
 pub use parser::{Count, Place, payload};
-pub use session::{Identity, OptionalIdentity};
+pub use session::Identity;
 pub use wire::{Epoch, Refusal, Sequence};

@@ -1,12 +1,10 @@
 -- The cases of attach, acknowledge and disconnect, a law for each `return` of the code. Assumes nothing.
-use Prim.Native.Nat.{ℕ, ◌^◌, ◌≤◌, ◌<◌}
+use Prim.Native.Nat.{ℕ, ◌^◌, ◌<◌}
 use mathlib.Core.Path.{◌≡◌, refl, sym, ap, ◌∙◌}
 use mathlib.Core.Bool.{Bool, true, false, not}
 use mathlib.Core.List.{List, [], ◌∷◌}
-use native.Mathlib.Omega.{arith}
 use lib.ListN.{replicate}
-use lib.Dec.{leb}
-use borrow.Author.Tests.{le-leb, lt-leb, eq-eqb, ne_eqb, not-true, not-false}
+use borrow.Author.Tests.{eq-eqb, ne_eqb, not-true, not-false}
 use Rattle.wire.specs.Bytes.{to_le}
 use Rattle.wire.specs.Refusals.{refusal, none, first}
 use Rattle.outer.specs.Outer.{window_ok, value_of, write, room_row}
@@ -17,9 +15,10 @@ use Rattle.record.specs.Types.{length_ok}
 use Rattle.record.specs.Record.{all_zero, encode_rows, record_bytes, encode_record}
 use Rattle.parser.specs.Push.{buffered_of, counted}
 use Rattle.parser.specs.declared.Count.{Count}
+use Rattle.session.specs.Checks.{held}
 use Rattle.session.specs.Writes.{identity_bytes}
 use Rattle.session.specs.declared.Identity.{Identity}
-use Rattle.guest_core.specs.State.{code, sound_guest, with_state, ack_guest}
+use Rattle.guest_core.specs.State.{is_ended, sound_guest, with_state, ack_guest}
 use Rattle.guest_core.specs.Writes.{outcome, not_sent, sent_record}
 use Rattle.guest_core.specs.Calls.{attach_rows, attach, ack_rows, acknowledge, disconnect}
 use Rattle.guest_core.specs.declared.GuestState.TheVariants as State
@@ -67,7 +66,7 @@ ack_written i n p o o2 at w ep e = e ∙ ap (λ (l : List ℕ). encode_record 4 
 
 module _ (g : GuestSession) (n : ℕ) (o : List ℕ) (at : ℕ) (r : Sent) (x : Refusal) (ex : x ≡ first (begin g 2)) where
   abbrev ack : List ℕ
-  ack = identity_bytes 4 g.identity.identity 0 (to_le 4 n)
+  ack = identity_bytes 4 (held g.identity) 0 (to_le 4 n)
 
   abbrev ack_rest : List (Bool × Refusal)
   ack_rest = (window_ok n, refusal 8 n 0 0) ∷ room_row o at 48 ∷ []
@@ -77,10 +76,10 @@ module _ (g : GuestSession) (n : ℕ) (o : List ℕ) (at : ℕ) (r : Sent) (x : 
   ack_stops = call_stops g (ack_guest g n) 0 ack o at r 2 ack_rest x ex
 
   module _ (low : n < 2 ^ 32) (z : x.number ≡ 0) (w : Written) (o2 : List ℕ)
-      (ew : outer.outcome w o2 ≡ encode_record 4 g.identity.identity.instance_id g.identity.identity.epoch.0 0 (to_le 4 n) o at) where
+      (ew : outer.outcome w o2 ≡ encode_record 4 (held g.identity).instance_id (held g.identity).epoch.0 0 (to_le 4 n) o at) where
     ack_told : outer.outcome w o2 ≡ write (first (ack_rows g n o at)) ack o at
     unfolding encode_record
-    ack_told = ew ∙ ap (λ (y : Refusal). write y ack o at) (goes_on g 2 x ex z ack_rest _ (ack_rows_lem g.identity.identity n o at low))
+    ack_told = ew ∙ ap (λ (y : Refusal). write y ack o at) (goes_on g 2 x ex z ack_rest _ (ack_rows_lem (held g.identity) n o at low))
 
     pub ack_refused : (w.refusal.number ≡ 0 → ⊥) → r ≡ not_sent w.refusal g → outcome r o2 ≡ acknowledge g n o at
     unfolding acknowledge
@@ -96,21 +95,21 @@ module _ (g : GuestSession) (b : Bool) (eb : b ≡ sound_guest g) where
   unfolding disconnect
   disconnect_23 x n ex = simp (disconnect, ← eb, not-true b n) (ap (λ (y : Refusal). record { refusal = y; session = g }) ex)
 
-  module _ (n : not b ≡ false) (k : ℕ) (x : Refusal) (ek : k ≡ code g.state) where
-    pub disconnect_ended : 4 ≤ k → x ≡ none → record { refusal = x; session = g } ≡ disconnect g
+  module _ (n : not b ≡ false) (k : Bool) (x : Refusal) (ek : k ≡ is_ended g.state) where
+    pub disconnect_ended : k ≡ true → x ≡ none → record { refusal = x; session = g } ≡ disconnect g
     unfolding disconnect
     disconnect_ended h ex =
-        simp (disconnect, ← eb, not-false b n, le-leb 4 (code g.state) (omega arith)) (ap (λ (y : Refusal). record { refusal = y; session = g }) ex)
+        simp (disconnect, ← eb, not-false b n, sym ek ∙ h) (ap (λ (y : Refusal). record { refusal = y; session = g }) ex)
 
-    module _ (c : Count) (s : GuestSession) (h : k < 4) (ec : c ≡ counted g.parser (buffered_of g.parser)) where
+    module _ (c : Count) (s : GuestSession) (h : k ≡ false) (ec : c ≡ counted g.parser (buffered_of g.parser)) where
       count_is : c.count ≡ buffered_of g.parser
       unfolding counted
       count_is =
           let q : counted g.parser (buffered_of g.parser) ≡ record { refusal = none; count = buffered_of g.parser } = simp (sound_inside g (sym eb ∙ not-false b n)) in
           ap (λ (y : Count). y.count) (ec ∙ q)
 
-      begun : leb 4 (code g.state) ≡ false
-      begun = lt-leb 4 (code g.state) (omega arith)
+      begun : is_ended g.state ≡ false
+      begun = sym ek ∙ h
 
       pub disconnect_19 : (c.count ≡ 0 → ⊥) → x ≡ refusal 19 c.count 0 0 → s ≡ with_state g State.Failed g.parser → record { refusal = x; session = s } ≡ disconnect g
       unfolding disconnect

@@ -1,3 +1,4 @@
+pub mod States
 pub mod Soundness
 pub mod Asking
 pub mod Writing

@@ -17,9 +17,11 @@ use Rattle.wire.proofs.Rows.{passed, rows_stop, rows_pass}
 use Rattle.outer.proofs.Writes.{write_stops, write_done}
 use Rattle.session.proofs.Stopping.{begin_rows}
 use Rattle.guest_core.specs.State.{code, sound_guest}
+use Rattle.guest_core.specs.declared.GuestState.{GuestState}
 use Rattle.guest_core.specs.declared.GuestSession.{GuestSession}
 use Rattle.guest_core.specs.Writes.{sound_row, outcome, not_sent, sent_record, writes}
 use Rattle.guest_core.specs.declared.answers.Sent.{Sent}
+use Rattle.guest_core.proofs.States.{same_state, same_is}
 
 module _ (v : Refusal) (g after : GuestSession) (count : ℕ) (bytes o : List ℕ) (at : ℕ) (r : Sent) where
   -- stopped with nothing written
@@ -48,9 +50,9 @@ abbrev pub begin : GuestSession → ℕ → List (Bool × Refusal)
 begin g state = sound_row g ∷ (eqb (code g.state) state, refusal 20 0 0 0) ∷ []
 
 -- what is told of the session is what its rows test
-pub told_of : (g : GuestSession) (state : ℕ) (b : Bool) (k : ℕ) (x : Refusal) → b ≡ sound_guest g → k ≡ code g.state → x ≡ first (begin_rows b k state)
-    → x ≡ first (begin g state)
-told_of g state b k x eb ek ex = ex ∙ (ap (λ (c : Bool). first (begin_rows c k state)) eb ∙ ap (λ (m : ℕ). first (begin_rows (sound_guest g) m state)) ek)
+pub told_of : (g : GuestSession) (state : GuestState) (b k : Bool) (x : Refusal) → b ≡ sound_guest g → k ≡ same_state g.state state → x ≡ first (begin_rows b k)
+    → x ≡ first (begin g (code state))
+told_of g state b k x eb ek ex = ex ∙ (λ j. first (begin_rows (eb j) ((ek ∙ same_is g.state state) j)))
 
 module _ (g after : GuestSession) (count : ℕ) (bytes o : List ℕ) (at : ℕ) (r : Sent) (state : ℕ) (rows : List (Bool × Refusal)) (x : Refusal) (ex : x ≡ first (begin g state)) where
   pub call_stops : (x.number ≡ 0 → ⊥) → r ≡ not_sent x g → outcome r o ≡ writes (first (begin g state ++ rows)) g after count bytes o at

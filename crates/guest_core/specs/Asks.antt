@@ -1,10 +1,9 @@
 -- The rules of what a guest's session answers when asked (01, "Guest"): 23, then the value. They change nothing.
-use Rattle.std.specs.Prelude.{true, false}
+use Rattle.std.specs.Prelude.{true, false, None}
 use Rattle.wire.specs.Refusals.{pick, refusal, none}
 use Rattle.wire.specs.declared.Refusal.{Refusal}
 use Rattle.parser.specs.Push.{needed_of}
 use Rattle.parser.specs.declared.Count.{Count}
-use Rattle.session.specs.Checks.{no_identity, shown}
 use Rattle.guest_core.specs.State.{is_active, sound_guest}
 use Rattle.guest_core.specs.declared.GuestState.TheVariants as State
 use Rattle.guest_core.specs.declared.GuestSession.{GuestSession}
@@ -18,8 +17,8 @@ state_of g = pick (sound_guest g) (record { refusal = none; state = g.state }) (
 
 unfoldable pub identity_of : GuestSession → IdentityAnswer
 identity_of g =
-    pick (sound_guest g) (record { refusal = none; identity = shown g.identity })
-    (record { refusal = refusal 23 0 0 0; identity = record { present = false; identity = no_identity } })
+    pick (sound_guest g) (record { refusal = none; identity = g.identity })
+    (record { refusal = refusal 23 0 0 0; identity = None })
 
 abbrev pub no_window : Refusal → WindowAnswer
 no_window r = record { refusal = r; present = false; window = 0 }

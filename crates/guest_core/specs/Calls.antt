@@ -6,6 +6,7 @@ use Rattle.outer.specs.Outer.{window_ok, room_row}
 use Rattle.wire.specs.declared.Refusal.{Refusal}
 use Rattle.record.specs.Record.{record_bytes}
 use Rattle.parser.specs.Push.{buffered_of}
+use Rattle.session.specs.Checks.{held}
 use Rattle.session.specs.Writes.{identity_bytes}
 use Rattle.guest_core.specs.State.{is_detached, is_resetting, is_ended, sound_guest, with_state, ack_guest}
 use Rattle.guest_core.specs.declared.GuestState.TheVariants as State
@@ -27,7 +28,7 @@ abbrev pub ack_rows : GuestSession → ℕ → List ℕ → ℕ → List (Bool �
 ack_rows g w o at = sound_row g ∷ (is_resetting g.state, refusal 20 0 0 0) ∷ (window_ok w, refusal 8 w 0 0) ∷ room_row o at 48 ∷ []
 
 unfoldable pub acknowledge : GuestSession → ℕ → List ℕ → ℕ → Outcome
-acknowledge g w o at = writes (first (ack_rows g w o at)) g (ack_guest g w) 0 (identity_bytes 4 g.identity.identity 0 (to_le 4 w)) o at
+acknowledge g w o at = writes (first (ack_rows g w o at)) g (ack_guest g w) 0 (identity_bytes 4 (held g.identity) 0 (to_le 4 w)) o at
 
 -- ---- disconnect
 -- in Closed or Failed it succeeds and does nothing; else 19 bytes buffered (a count) leaves Failed, or it leads to Closed

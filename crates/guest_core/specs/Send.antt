@@ -4,7 +4,7 @@ use Rattle.wire.specs.Bytes.{to_le}
 use Rattle.wire.specs.Refusals.{pick, refusal, first, passes}
 use Rattle.outer.specs.Outer.{max_payload, room_row}
 use Rattle.wire.specs.declared.Refusal.{Refusal}
-use Rattle.session.specs.Checks.{next_row}
+use Rattle.session.specs.Checks.{held, next_row}
 use Rattle.session.specs.Writes.{identity_bytes, not_encoded, encode_data}
 use Rattle.session.specs.Writes as writing
 use Rattle.guest_core.specs.State.{is_active, sent_guest}
@@ -27,14 +27,14 @@ send_rows g bytes o at =
 unfoldable pub send : GuestSession → List ℕ → List ℕ → ℕ → Outcome
 send g bytes o at =
     writes (first (send_rows g bytes o at)) g (sent_guest g g.outstanding) (send_count bytes)
-    (identity_bytes 5 g.identity.identity g.send_sequence.0 (take (send_count bytes) bytes)) o at
+    (identity_bytes 5 (held g.identity) g.send_sequence.0 (take (send_count bytes) bytes)) o at
 
 -- what a send encodes: 23, 20, then the encoder of the next record
 unfoldable pub encoding : GuestSession → List ℕ → List ℕ → ℕ → writing.Outcome
 encoding g bytes o at =
     let r : Refusal = first (sound_row g ∷ (is_active g.state, refusal 20 0 0 0) ∷ []) in
     pick (passes r)
-    (encode_data g.identity.identity g.send_sequence.0 bytes o at)
+    (encode_data (held g.identity) g.send_sequence.0 bytes o at)
     (writing.outcome (not_encoded r g.send_sequence.0) o)
 
 -- a CREDIT's last two: 16 (a 9); 22
@@ -52,4 +52,4 @@ credit_rows g n o at =
 unfoldable pub credit : GuestSession → ℕ → List ℕ → ℕ → Outcome
 credit g n o at =
     writes (first (credit_rows g n o at)) g (sent_guest g (g.outstanding - n)) 0
-    (identity_bytes 9 g.identity.identity g.send_sequence.0 (to_le 4 n)) o at
+    (identity_bytes 9 (held g.identity) g.send_sequence.0 (to_le 4 n)) o at

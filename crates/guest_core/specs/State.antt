@@ -1,12 +1,11 @@
 -- The guest's states by number, its session values, and soundness (01, "Guest" and "What stops each operation").
-use Rattle.std.specs.Prelude.{ℕ, ◌+◌, Bool, true, false, not, ◌&&◌, ◌||◌, eqb, leb}
+use Rattle.std.specs.Prelude.{ℕ, ◌+◌, Bool, not, ◌&&◌, ◌||◌, eqb, leb, Option, Some, None}
 use Rattle.outer.specs.Outer.{max_window}
 use Rattle.record.specs.declared.Record.{Record}
 use Rattle.parser.specs.Push.{fresh, sound_parser}
 use Rattle.parser.specs.declared.RecordParser.{RecordParser}
-use Rattle.session.specs.Checks.{no_identity, holds, identity_of}
+use Rattle.session.specs.Checks.{holds, identity_of}
 use Rattle.session.specs.declared.Identity.{Identity}
-use Rattle.session.specs.declared.OptionalIdentity.{OptionalIdentity}
 use Rattle.guest_core.specs.declared.GuestState.{GuestState}
 use Rattle.guest_core.specs.declared.GuestState.TheVariants as State
 use Rattle.guest_core.specs.declared.GuestSession.{GuestSession}
@@ -48,7 +47,7 @@ abbrev pub fresh_guest : GuestSession
 fresh_guest =
     record {
       parser = fresh;
-      identity = record { present = false; identity = no_identity };
+      identity = None;
       receive_sequence = record { 0 = 0 };
       send_sequence = record { 0 = 0 };
       window = 0;
@@ -57,18 +56,18 @@ fresh_guest =
     }
 
 -- outstanding ≤ window ≤ 4,194,314, the window is 0 in Resetting, and Resetting and Active hold an identity
-abbrev pub figures_ok : ℕ → ℕ → ℕ → OptionalIdentity → Bool
+abbrev pub figures_ok : GuestState → ℕ → ℕ → Option Identity → Bool
 figures_ok state window outstanding identity =
     leb outstanding window
-    && (leb window max_window && ((not (eqb state 2) || eqb window 0) && (not (leb 2 state && leb state 3) || holds identity)))
+    && (leb window max_window && ((not (is_resetting state) || eqb window 0) && (not (is_live state) || holds identity)))
 
 -- a session is sound when its parser is and its figures are
 unfoldable pub sound_guest : GuestSession → Bool
-sound_guest g = sound_parser g.parser && figures_ok (code g.state) g.window g.outstanding g.identity
+sound_guest g = sound_parser g.parser && figures_ok g.state g.window g.outstanding g.identity
 
 -- Active, and sound but for its parser
 unfoldable pub active_guest : GuestSession → Bool
-active_guest g = is_active g.state && figures_ok (code g.state) g.window g.outstanding g.identity
+active_guest g = is_active g.state && figures_ok g.state g.window g.outstanding g.identity
 
 -- ---- sessions after a call
 -- another state and parser, all else unchanged
@@ -89,7 +88,7 @@ abbrev pub reset_session : RecordParser → Identity → ℕ → GuestSession
 reset_session p i sequence =
     record {
       parser = p;
-      identity = record { present = true; identity = i };
+      identity = Some i;
       receive_sequence = record { 0 = sequence + 1 };
       send_sequence = record { 0 = 0 };
       window = 0;

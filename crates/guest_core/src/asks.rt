@@ -4,7 +4,7 @@ ghost use Rattle.guest_core.specs.Asks.{state_of, identity_of, window_of, no_win
 
 use crate::{GuestSession, GuestState};
 use parser::Count;
-use session::{OptionalIdentity, no_identity};
+use session::Identity;
 use wire::Refusal;
 
 // What `state` answers.
@@ -18,7 +18,7 @@ pub struct StateAnswer {
 #[derive(Clone, Copy)]
 pub struct IdentityAnswer {
     pub refusal: Refusal,
-    pub identity: OptionalIdentity,
+    pub identity: Option<Identity>,
 }
 
 // What `window` answers: none unless Active.
@@ -71,15 +71,12 @@ pub fn identity(session: GuestSession) -> IdentityAnswer
     if session.is_sound() {
         return IdentityAnswer {
             refusal: Refusal::none(),
-            identity: session.identity.shown(),
+            identity: session.identity,
         };
     }
     IdentityAnswer {
         refusal: Refusal::new(23, 0, 0, 0),
-        identity: OptionalIdentity {
-            present: false,
-            identity: no_identity(),
-        },
+        identity: None,
     }
 }
 
@@ -90,8 +87,7 @@ pub fn window(session: GuestSession) -> WindowAnswer
     if !session.is_sound() {
         return no_window(Refusal::new(23, 0, 0, 0));
     }
-    let state = session.state;
-    if state.number() == 3 {
+    if session.state == GuestState::Active {
         return WindowAnswer {
             refusal: Refusal::none(),
             present: true,

@@ -13,8 +13,8 @@ use crate::{GuestSession, GuestState};
 use outer::Written;
 use record::codec::encode_record;
 use record::types::RecordType;
-use session::Identity;
 use session::checks::stopped;
+use session::{Identity, held};
 use wire::{Epoch, Refusal, Sequence};
 
 // What `disconnect` answers.
@@ -80,8 +80,7 @@ fn acknowledged(session: GuestSession, window: u32) -> GuestSession
 pub fn attach(session: GuestSession, output: &mut [u8], at: usize) -> Sent
     ensures { outcome result output.new ≡ calls.attach session output.old at }
 {
-    let held = session.state;
-    let refusal = stopped(session.is_sound(), held.number(), 0);
+    let refusal = stopped(session.is_sound(), session.state == GuestState::Detached);
     if refusal.number != 0 {
         return not_sent(session, refusal);
     }
@@ -100,12 +99,11 @@ pub fn attach(session: GuestSession, output: &mut [u8], at: usize) -> Sent
 pub fn acknowledge(session: GuestSession, window: u32, output: &mut [u8], at: usize) -> Sent
     ensures { outcome result output.new ≡ calls.acknowledge session window output.old at }
 {
-    let held = session.state;
-    let refusal = stopped(session.is_sound(), held.number(), 2);
+    let refusal = stopped(session.is_sound(), session.state == GuestState::Resetting);
     if refusal.number != 0 {
         return not_sent(session, refusal);
     }
-    let ack = write_ack(session.identity.identity, window, output, at);
+    let ack = write_ack(held(session.identity), window, output, at);
     if ack.refusal.number != 0 {
         return not_sent(session, ack.refusal);
     }
@@ -122,8 +120,7 @@ pub fn disconnect(session: GuestSession) -> Closed
             session,
         };
     }
-    let state = session.state;
-    if 4 <= state.number() {
+    if session.state.is_ended() {
         return Closed {
             refusal: Refusal::none(),
             session,

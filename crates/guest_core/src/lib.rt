@@ -8,17 +8,17 @@ pub mod asks;
 pub mod control;
 pub mod send;
 
-ghost use Rattle.std.specs.Prelude.{◌≡◌, not, ◌&&◌, ◌||◌, leb};
+ghost use Rattle.std.specs.Prelude.{◌≡◌, not, ◌||◌};
 ghost use Rattle.session.specs.Checks.{holds};
-ghost use Rattle.guest_core.specs.State.{code, fresh_guest, sound_guest, active_guest, figures_ok, with_state};
+ghost use Rattle.guest_core.specs.State.{code, is_live, is_ended, fresh_guest, sound_guest, active_guest, figures_ok, with_state};
 
 use outer::payloads::OUTER_MAX_RECEIVE_WINDOW;
 use parser::RecordParser;
-use session::{OptionalIdentity, no_identity};
+use session::{Identity, is_held};
 use wire::Sequence;
 
 // State of the guest's session.
-#[derive(Clone, Copy)]
+#[derive(Clone, Copy, Debug, PartialEq, Eq)]
 pub enum GuestState {
     Detached,
     Attaching,
@@ -33,7 +33,7 @@ pub enum GuestState {
 #[derive(Clone, Copy)]
 pub struct GuestSession {
     pub parser: RecordParser,
-    pub identity: OptionalIdentity,
+    pub identity: Option<Identity>,
     pub receive_sequence: Sequence,
     pub send_sequence: Sequence,
     pub window: u32,
@@ -55,23 +55,27 @@ impl GuestState {
             GuestState::Failed => 5,
         }
     }
+
+    // Whether the session is over: disconnect does nothing then.
+    pub(crate) fn is_ended(self) -> bool
+        ensures { result ≡ is_ended self }
+    {
+        matches!(self, GuestState::Closed | GuestState::Failed)
+    }
 }
 
 // Whether the states that need an identity hold one.
-fn identity_ok(state: u8, identity: OptionalIdentity) -> bool
-    ensures { result ≡ not (leb 2 state && leb state 3) || holds identity }
+fn identity_ok(state: GuestState, identity: Option<Identity>) -> bool
+    ensures { result ≡ not (is_live state) || holds identity }
 {
-    if state < 2 {
-        return true;
+    match state {
+        GuestState::Resetting | GuestState::Active => is_held(identity),
+        _ => true,
     }
-    if 3 < state {
-        return true;
-    }
-    identity.is_held()
 }
 
 // Whether window, outstanding and identity fit each other and the state.
-fn figures_ok(state: u8, window: u32, outstanding: u32, identity: OptionalIdentity) -> bool
+fn figures_ok(state: GuestState, window: u32, outstanding: u32, identity: Option<Identity>) -> bool
     ensures { result ≡ figures_ok state window outstanding identity }
 {
     if window < outstanding {
@@ -80,11 +84,8 @@ fn figures_ok(state: u8, window: u32, outstanding: u32, identity: OptionalIdenti
     if OUTER_MAX_RECEIVE_WINDOW < window {
         return false;
     }
-    if state == 2 {
-        if window != 0 {
-            return false;
-        }
-        return identity_ok(state, identity);
+    if state == GuestState::Resetting && window != 0 {
+        return false;
     }
     identity_ok(state, identity)
 }
@@ -96,10 +97,7 @@ impl GuestSession {
     {
         GuestSession {
             parser: RecordParser::new(),
-            identity: OptionalIdentity {
-                present: false,
-                identity: no_identity(),
-            },
+            identity: None,
             receive_sequence: Sequence(0),
             send_sequence: Sequence(0),
             window: 0,
@@ -115,8 +113,7 @@ impl GuestSession {
         if !self.parser.is_sound() {
             return false;
         }
-        let state = self.state;
-        figures_ok(state.number(), self.window, self.outstanding, self.identity)
+        figures_ok(self.state, self.window, self.outstanding, self.identity)
     }
 
     // Whether the session is Active, and sound but for its parser: the commonest sessions, told by
@@ -124,8 +121,7 @@ impl GuestSession {
     pub fn is_active(self) -> bool
         ensures { result ≡ active_guest self }
     {
-        let state = self.state;
-        if state.number() != 3 {
+        if self.state != GuestState::Active {
             return false;
         }
         if self.window < self.outstanding {
@@ -134,7 +130,7 @@ impl GuestSession {
         if OUTER_MAX_RECEIVE_WINDOW < self.window {
             return false;
         }
-        self.identity.is_held()
+        is_held(self.identity)
     }
 
     // The session in another state with another parser.

@@ -4,6 +4,7 @@ ghost use Rattle.std.specs.Prelude.{◌≡◌, true, ◌&&◌, ◌-◌, ◌≤�
 ghost use Rattle.wire.specs.Bytes.{to_le};
 ghost use Rattle.wire.specs.Refusals.{first};
 ghost use Rattle.outer.specs.Outer.{credit_ok};
+ghost use Rattle.session.specs.Checks.{held};
 ghost use Rattle.session.specs.Writes.{identity_bytes};
 ghost use Rattle.session.specs.Writes as writing;
 ghost use Rattle.guest_core.specs.State.{with_sent, sent_guest};
@@ -11,10 +12,11 @@ ghost use Rattle.guest_core.specs.Writes.{outcome, writes};
 ghost use Rattle.guest_core.specs.Send.{encoding, write_rows};
 ghost use Rattle.guest_core.specs.Send as calls;
 
-use crate::GuestSession;
 use crate::answers::{Sent, not_sent, record_sent};
+use crate::{GuestSession, GuestState};
 use record::types::RecordType;
 use session::checks::stopped;
+use session::held;
 use session::next::{Encoded, encode_data, encode_next};
 use wire::{Refusal, Sequence};
 
@@ -22,8 +24,7 @@ use wire::{Refusal, Sequence};
 fn encode_any(session: GuestSession, bytes: &[u8], output: &mut [u8], at: usize) -> Encoded
     ensures { writing.outcome result output.new ≡ encoding session bytes.now output.old at }
 {
-    let held = session.state;
-    let refusal = stopped(session.is_sound(), held.number(), 3);
+    let refusal = stopped(session.is_sound(), session.state == GuestState::Active);
     if refusal.number != 0 {
         let sequence = session.send_sequence;
         return Encoded {
@@ -34,7 +35,7 @@ fn encode_any(session: GuestSession, bytes: &[u8], output: &mut [u8], at: usize)
         };
     }
     encode_data(
-        session.identity.identity,
+        held(session.identity),
         session.send_sequence,
         bytes,
         output,
@@ -46,15 +47,9 @@ fn encode_any(session: GuestSession, bytes: &[u8], output: &mut [u8], at: usize)
 fn encode_sent(session: GuestSession, bytes: &[u8], output: &mut [u8], at: usize) -> Encoded
     ensures { writing.outcome result output.new ≡ encoding session bytes.now output.old at }
 {
-    if session.is_active() {
-        if session.parser.is_clear() {
-            return encode_data(
-                session.identity.identity,
-                session.send_sequence,
-                bytes,
-                output,
-                at,
-            );
+    if let Some(identity) = session.identity {
+        if session.is_active() && session.parser.is_clear() {
+            return encode_data(identity, session.send_sequence, bytes, output, at);
         }
     }
     let whole = session;
@@ -104,12 +99,12 @@ fn is_covered(bytes: u32, outstanding: u32) -> bool
 // Writes a CREDIT that is covered: 16, 22, or the session with less outstanding.
 fn credited(session: GuestSession, bytes: u32, output: &mut [u8], at: usize) -> Sent
     requires { (bytes ≤ session.outstanding) × (credit_ok bytes ≡ true) }
-    ensures { outcome result output.new ≡ writes (first (write_rows session output.old at)) session (sent_guest session (session.outstanding - bytes)) 0 (identity_bytes 9 session.identity.identity session.send_sequence.0 (to_le 4 bytes)) output.old at }
+    ensures { outcome result output.new ≡ writes (first (write_rows session output.old at)) session (sent_guest session (session.outstanding - bytes)) 0 (identity_bytes 9 (held session.identity) session.send_sequence.0 (to_le 4 bytes)) output.old at }
 {
     let payload = bytes.to_le_bytes();
     let encoded = encode_next(
         RecordType::Credit,
-        session.identity.identity,
+        held(session.identity),
         session.send_sequence,
         &payload,
         output,
@@ -129,8 +124,7 @@ fn credited(session: GuestSession, bytes: u32, output: &mut [u8], at: usize) -> 
 pub fn credit(session: GuestSession, bytes: u32, output: &mut [u8], at: usize) -> Sent
     ensures { outcome result output.new ≡ calls.credit session bytes output.old at }
 {
-    let held = session.state;
-    let refusal = stopped(session.is_sound(), held.number(), 3);
+    let refusal = stopped(session.is_sound(), session.state == GuestState::Active);
     if refusal.number != 0 {
         return not_sent(session, refusal);
     }

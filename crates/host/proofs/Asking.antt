@@ -6,9 +6,7 @@ use Rattle.wire.specs.Refusals.{refusal, none}
 use Rattle.wire.specs.declared.Refusal.{Refusal}
 use Rattle.parser.specs.Push.{needed_of, counted}
 use Rattle.parser.specs.declared.Count.{Count}
-use Rattle.session.specs.Checks.{no_identity, shown}
-use Rattle.session.specs.declared.Identity.{Identity}
-use Rattle.session.specs.declared.OptionalIdentity.{OptionalIdentity}
+use Rattle.std.specs.Prelude.{None}
 use Rattle.host.specs.State.{sound_host}
 use Rattle.host.specs.Asks.{state_told, state_of, identity_told, identity_of, needed_by}
 use Rattle.host.specs.declared.HostState.TheVariants as State
@@ -28,13 +26,13 @@ module _ (h : HostSession) (b : Bool) (x : Refusal) (eb : b ≡ sound_host h) wh
     state_23 t ex er = simp (state_of, ← eb, t) (er ∙ ap (λ (y : Refusal). state_told y State.Detached) ex)
 
   module _ (r : IdentityAnswer) where
-    pub identity_is : (i : OptionalIdentity) → b ≡ true → x ≡ none → i ≡ shown h.identity → r ≡ identity_told x i → r ≡ identity_of h
+    pub identity_is : b ≡ true → x ≡ none → r ≡ identity_told x h.identity → r ≡ identity_of h
     unfolding identity_of
-    identity_is i t ex ei er = simp (identity_of, ← eb, t) (er ∙ (λ j. identity_told (ex j) (ei j)))
+    identity_is t ex er = simp (identity_of, ← eb, t) (er ∙ ap (λ (y : Refusal). identity_told y h.identity) ex)
 
-    pub identity_23 : (i : Identity) → b ≡ false → x ≡ refusal 23 0 0 0 → i ≡ no_identity → r ≡ identity_told x (record { present = false; identity = i }) → r ≡ identity_of h
+    pub identity_23 : b ≡ false → x ≡ refusal 23 0 0 0 → r ≡ identity_told x None → r ≡ identity_of h
     unfolding identity_of
-    identity_23 i t ex ei er = simp (identity_of, ← eb, t) (er ∙ (λ j. identity_told (ex j) (record { present = false; identity = ei j })))
+    identity_23 t ex er = simp (identity_of, ← eb, t) (er ∙ ap (λ (y : Refusal). identity_told y None) ex)
 
   pub needed_23 : not b ≡ true → x ≡ refusal 23 0 0 0 → record { refusal = x; count = 0 } ≡ needed_by h
   unfolding needed_by

@@ -19,7 +19,7 @@ use Rattle.record.specs.Types.{length_ok}
 use Rattle.record.specs.Record.{all_zero, encode_rows, record_bytes, encode_record}
 use Rattle.parser.specs.Push.{buffered_of, counted}
 use Rattle.parser.specs.declared.Count.{Count}
-use Rattle.session.specs.Checks.{last_sequence, next_row}
+use Rattle.session.specs.Checks.{held, last_sequence, next_row}
 use Rattle.session.proofs.Stopping.{begin_rows}
 use Rattle.session.specs.Writes.{identity_bytes, next_rows, encode_data}
 use Rattle.session.specs.Writes as writing
@@ -27,10 +27,12 @@ use Rattle.session.specs.declared.next.Encoded.{Encoded}
 use Rattle.session.proofs.NextCases.{encoded_stops, encoded_done}
 use Rattle.host.specs.State.{code, is_begun, sound_host, with_state, with_sent, sent_host}
 use Rattle.host.specs.Calls.{sound_row, outcome, not_sent, sent_record, writes, attach_rows, attach, send_count, send_rows, send, ended, disconnect}
+use Rattle.host.specs.declared.HostState.{HostState}
 use Rattle.host.specs.declared.HostState.TheVariants as State
 use Rattle.host.specs.declared.HostSession.{HostSession}
 use Rattle.host.specs.declared.calls.Sent.{Sent}
 use Rattle.host.specs.declared.calls.Closed.{Closed}
+use Rattle.host.proofs.States.{same_state, same_is}
 use Rattle.host.proofs.Soundness.{sound_inside}
 
 -- ---- calls that write, in general
@@ -53,9 +55,15 @@ abbrev start_rows : HostSession → ℕ → List (Bool × Refusal)
 start_rows h k = sound_row h ∷ (eqb (code h.state) k, refusal 20 0 0 0) ∷ []
 
 -- what is told of the session is what its rows test
-pub told_of : (h : HostSession) (state : ℕ) (b : Bool) (k : ℕ) (x : Refusal) → b ≡ sound_host h → k ≡ code h.state → x ≡ first (begin_rows b k state)
-    → x ≡ first (start_rows h state)
-told_of h state b k x eb ek ex = ex ∙ (ap (λ (c : Bool). first (begin_rows c k state)) eb ∙ ap (λ (m : ℕ). first (begin_rows (sound_host h) m state)) ek)
+module _ (h : HostSession) (b k : Bool) (x : Refusal) (eb : b ≡ sound_host h) where
+  told_of : (state : HostState) → k ≡ same_state h.state state → x ≡ first (begin_rows b k) → x ≡ first (start_rows h (code state))
+  told_of state ek ex = ex ∙ (λ j. first (begin_rows (eb j) ((ek ∙ same_is h.state state) j)))
+
+  pub told_detached : k ≡ same_state h.state State.Detached → x ≡ first (begin_rows b k) → x ≡ first (start_rows h 0)
+  told_detached = told_of State.Detached
+
+  pub told_attached : k ≡ same_state h.state State.Attached → x ≡ first (begin_rows b k) → x ≡ first (start_rows h 2)
+  told_attached = told_of State.Attached
 
 -- ---- attach
 -- the encoder's rows for HOST_ATTACH with 32 bytes: only the room is left
@@ -94,7 +102,7 @@ module _ (h : HostSession) (p o : List ℕ) (at : ℕ) (r : Sent) (x : Refusal) 
         let q = write_done w (first (attach_rows h o at)) attach_bytes o o2 at attach_told m in
         does (first (attach_rows h o at)) h attached 0 attach_bytes o at r o2 w.next 0 s q.0 es refl q.1 q.2 er
 
-pub ruleset attaching = (told_of, attach_stopped, attach_22, attach_done)
+pub ruleset attaching = (told_detached, attach_stopped, attach_22, attach_done)
 
 -- ---- send
 abbrev send_rest : HostSession → List ℕ → List ℕ → ℕ → List (Bool × Refusal)
@@ -113,7 +121,7 @@ data_rows_lem n b h = go (leb 1 n) refl
     go false e = let z : n ≡ 0 = let k : n < 1 = leb-false 1 n e in omega arith in simp e (ap (λ (j : ℕ). refusal 5 5 j 0) z)
 
 send_rows_lem : (h : HostSession) (bs o : List ℕ) (at : ℕ)
-    → first (next_rows 5 h.identity.identity h.send_sequence.0 (take (send_count bs) bs) o at) ≡ first (send_rest h bs o at)
+    → first (next_rows 5 (held h.identity) h.send_sequence.0 (take (send_count bs) bs) o at) ≡ first (send_rest h bs o at)
 unfolding first
 send_rows_lem h bs o at =
     let n : ℕ = length (take (send_count bs) bs) in
@@ -134,30 +142,30 @@ send_rows_lem h bs o at =
 
 module _ (h : HostSession) (bs o : List ℕ) (at : ℕ) (r : Sent) (x : Refusal) (ex : x ≡ first (start_rows h 2)) where
   abbrev sent_bytes : List ℕ
-  sent_bytes = identity_bytes 5 h.identity.identity h.send_sequence.0 (take (send_count bs) bs)
+  sent_bytes = identity_bytes 5 (held h.identity) h.send_sequence.0 (take (send_count bs) bs)
 
   pub send_stopped : (x.number ≡ 0 → ⊥) → r ≡ not_sent x h → outcome r o ≡ send h bs o at
   unfolding send
   send_stopped n er = stops (first (send_rows h bs o at)) h (sent_host h) (send_count bs) sent_bytes o at r x (rows_stop (start_rows h 2) (send_rest h bs o at) x ex n) n er
 
-  module _ (u : Encoded) (o2 : List ℕ) (z : x.number ≡ 0) (eu : writing.outcome u o2 ≡ encode_data h.identity.identity h.send_sequence.0 bs o at) where
-    send_told : first (next_rows 5 h.identity.identity h.send_sequence.0 (take (send_count bs) bs) o at) ≡ first (send_rows h bs o at)
+  module _ (u : Encoded) (o2 : List ℕ) (z : x.number ≡ 0) (eu : writing.outcome u o2 ≡ encode_data (held h.identity) h.send_sequence.0 bs o at) where
+    send_told : first (next_rows 5 (held h.identity) h.send_sequence.0 (take (send_count bs) bs) o at) ≡ first (send_rows h bs o at)
     send_told = rows_pass (start_rows h 2) (send_rest h bs o at) x _ (refl, (refl, tt)) ex z (send_rows_lem h bs o at)
 
     pub send_refused : (u.refusal.number ≡ 0 → ⊥) → r ≡ not_sent u.refusal h → outcome r o2 ≡ send h bs o at
     unfolding send
     send_refused n er =
-        let q = encoded_stops 5 h.identity.identity h.send_sequence.0 (send_count bs) (take (send_count bs) bs) o o2 at u eu n in
+        let q = encoded_stops 5 (held h.identity) h.send_sequence.0 (send_count bs) (take (send_count bs) bs) o o2 at u eu n in
         ap (outcome r) q.1 ∙ stops (first (send_rows h bs o at)) h (sent_host h) (send_count bs) sent_bytes o at r u.refusal (q.0 ∙ send_told) n er
 
     pub send_done : (s : HostSession) → u.refusal.number ≡ 0 → s ≡ with_sent h u.sequence.0 → r ≡ sent_record u.count u.next s → outcome r o2 ≡ send h bs o at
     unfolding send
     send_done s n es er =
-        let q = encoded_done 5 h.identity.identity h.send_sequence.0 (send_count bs) (take (send_count bs) bs) o o2 at u eu n in
+        let q = encoded_done 5 (held h.identity) h.send_sequence.0 (send_count bs) (take (send_count bs) bs) o o2 at u eu n in
         does (first (send_rows h bs o at)) h (sent_host h) (send_count bs) sent_bytes o at r o2 u.next u.count s (ap passes (sym send_told) ∙ q.0) (es ∙ ap (with_sent h) q.3) q.1
         q.2 q.4 er
 
-pub ruleset sending = (told_of, send_stopped, send_refused, send_done)
+pub ruleset sending = (told_attached, send_stopped, send_refused, send_done)
 
 -- ---- disconnect
 module _ (h s : HostSession) (n : ℕ) (x : Refusal) where
@@ -174,18 +182,18 @@ module _ (h : HostSession) (b : Bool) (eb : b ≡ sound_host h) where
   unfolding disconnect
   disconnect_23 x n ex = simp (disconnect, ← eb, not-true b n) (ap (λ (y : Refusal). record { refusal = y; session = h }) ex)
 
-  module _ (n : not b ≡ false) (k : ℕ) (x : Refusal) (ek : k ≡ code h.state) where
-    pub disconnect_ended : 3 ≤ k → x ≡ none → record { refusal = x; session = h } ≡ disconnect h
+  module _ (n : not b ≡ false) (k : Bool) (x : Refusal) (ek : k ≡ is_begun h.state) where
+    pub disconnect_ended : not k ≡ true → x ≡ none → record { refusal = x; session = h } ≡ disconnect h
     unfolding disconnect
     disconnect_ended l ex =
-        simp (disconnect, ← eb, not-false b n, lt-leb (code h.state) 2 (omega arith)) (ap (λ (y : Refusal). record { refusal = y; session = h }) ex)
+        simp (disconnect, ← eb, not-false b n, sym ek ∙ not-true k l) (ap (λ (y : Refusal). record { refusal = y; session = h }) ex)
 
-pub disconnect_ends : (h : HostSession) (b : Bool) (k : ℕ) (c : Count) (r : Closed) → b ≡ sound_host h → not b ≡ false → k ≡ code h.state → k < 3 → c ≡ counted h.parser (buffered_of h.parser)
+pub disconnect_ends : (h : HostSession) (b k : Bool) (c : Count) (r : Closed) → b ≡ sound_host h → not b ≡ false → k ≡ is_begun h.state → not k ≡ false → c ≡ counted h.parser (buffered_of h.parser)
     → r ≡ ended h c.count → r ≡ disconnect h
 unfolding disconnect counted
 disconnect_ends h b k c r eb n ek l ec er =
     let told : counted h.parser (buffered_of h.parser) ≡ record { refusal = none; count = buffered_of h.parser } = simp (sound_inside h (sym eb ∙ not-false b n)) in
-    let begun : is_begun h.state ≡ true = le-leb (code h.state) 2 (omega arith) in
+    let begun : is_begun h.state ≡ true = sym ek ∙ not-false k l in
     simp (disconnect, ← eb, not-false b n, begun) (er ∙ ap (λ (y : Count). ended h y.count) (ec ∙ told))
 
 pub ruleset disconnecting = (disconnect_23, disconnect_ended, disconnect_ends)

@@ -4,13 +4,15 @@ use mathlib.Core.Path.{◌≡◌, refl, sym, ap, ◌∙◌}
 use mathlib.Core.Bool.{Bool, true, false, not}
 use mathlib.Core.List.{List, [], ◌∷◌, ◌++◌}
 use lib.Dec.{eqb}
-use borrow.Author.Tests.{le-leb, lt-leb, eq-eqb, ne_eqb, not-true, not-false}
+use borrow.Author.Tests.{le-leb, lt-leb, not-true, not-false}
 use Rattle.wire.specs.Refusals.{pick, refusal, none, first}
 use Rattle.wire.specs.declared.Refusal.{Refusal}
 use Rattle.wire.proofs.Rows.{Numbered, row_stops, row_passes, no_rows, rows_stop, rows_pass}
 use Rattle.record.specs.Types.{code_of}
+use Rattle.record.specs.declared.types.RecordType.{RecordType}
+use Rattle.record.specs.declared.types.RecordType.TheVariants as Kind
 use Rattle.record.specs.declared.Record.{Record}
-use Rattle.session.specs.Checks.{identity_of, identity_ok, next_sequence, identity_row, next_row, sequence_row, instance_row, epoch_row}
+use Rattle.session.specs.Checks.{held, identity_of, identity_ok, next_sequence, identity_row, next_row, sequence_row, instance_row, epoch_row}
 use Rattle.session.specs.declared.Identity.{Identity}
 use Rattle.session.specs.declared.NextSequence.{NextSequence}
 use Rattle.session.proofs.Cases.{next_refusal}
@@ -19,20 +21,17 @@ use Rattle.host.specs.declared.HostSession.{HostSession}
 use Rattle.host.specs.Checks.{allowed, stale_row, type_rows, order_rows, record_rows}
 
 -- ---- what stops a record by its type and sequence
-module _ (s : HostState) (t actual due : ℕ) (k : ℕ) (b : Bool) (ek : k ≡ t) (eb : b ≡ allowed s k) where
-  permitted : b ≡ allowed s t
-  permitted = eb ∙ ap (allowed s) ek
-
-  pub order_type : (x : Refusal) → not b ≡ true → x ≡ refusal 10 k 0 0 → x ≡ first (order_rows s t actual due)
-  order_type x n q = row_stops _ _ x _ (sym permitted ∙ not-true b n) (q ∙ ap (λ (j : ℕ). refusal 10 j 0 0) ek)
+module _ (s : HostState) (t actual due : ℕ) (b : Bool) (eb : b ≡ allowed s t) where
+  pub order_type : (x : Refusal) (k : ℕ) → not b ≡ true → k ≡ t → x ≡ refusal 10 k 0 0 → x ≡ first (order_rows s t actual due)
+  order_type x k n ek q = row_stops _ _ x _ (sym eb ∙ not-true b n) (q ∙ ap (λ (j : ℕ). refusal 10 j 0 0) ek)
 
   module _ (x : Refusal) (n : not b ≡ false) (ex : x ≡ first (sequence_row due actual ∷ [])) where
     pub order_sequence : (x.number ≡ 0 → ⊥) → x ≡ first (order_rows s t actual due)
-    order_sequence m = row_passes _ _ x _ (sym permitted ∙ not-false b n) (rows_stop (sequence_row due actual ∷ []) (next_row t due ∷ []) x ex m)
+    order_sequence m = row_passes _ _ x _ (sym eb ∙ not-false b n) (rows_stop (sequence_row due actual ∷ []) (next_row t due ∷ []) x ex m)
 
     pub order_next : (y : NextSequence) → x.number ≡ 0 → y ≡ next_sequence due t → y.refusal ≡ first (order_rows s t actual due)
     order_next y z q =
-        row_passes _ _ _ _ (sym permitted ∙ not-false b n)
+        row_passes _ _ _ _ (sym eb ∙ not-false b n)
         (rows_pass (sequence_row due actual ∷ []) (next_row t due ∷ []) x y.refusal (refl, tt) ex z (next_refusal t due y q))
 
 pub ruleset ordering = (order_type, order_sequence, order_next)
@@ -42,8 +41,8 @@ module _ (t : ℕ) (instance : List ℕ) (epoch : ℕ) (b : Bool) (x : Refusal) 
   pub carries_one : b ≡ true → x ≡ none → x ≡ first (identity_row t instance epoch ∷ [])
   carries_one e q = row_passes _ _ x [] (sym eb ∙ e) (no_rows x q)
 
-  pub carries_none : b ≡ false → x ≡ refusal 11 t 0 0 → x ≡ first (identity_row t instance epoch ∷ [])
-  carries_none e q = row_stops _ _ x [] (sym eb ∙ e) q
+  pub carries_none : (k : ℕ) → b ≡ false → k ≡ t → x ≡ refusal 11 k 0 0 → x ≡ first (identity_row t instance epoch ∷ [])
+  carries_none k e ek q = row_stops _ _ x [] (sym eb ∙ e) (q ∙ ap (λ (j : ℕ). refusal 11 j 0 0) ek)
 
 pub ruleset carrying = (carries_one, carries_none)
 
@@ -84,24 +83,35 @@ module _ (a c : Identity) (x : Refusal) (ex : x ≡ first (identity_row 3 a.inst
 
 pub ruleset resetting = (reset_nameless, reset_other, reset_stale, reset_later)
 
-module _ (t : ℕ) (c : Identity) (r : Record) (a : Identity) (x : Refusal) (ea : a ≡ identity_of r) where
-  pub type_ready : t ≡ 7 → x ≡ first (identity_row 7 a.instance_id a.epoch.0 ∷ []) → x ≡ first (type_rows t c r)
-  type_ready e q = simp (eq-eqb t 7 e) (q ∙ ap (λ (i : Identity). first (identity_row 7 i.instance_id i.epoch.0 ∷ [])) ea)
+module _ (t : RecordType) (c : Identity) (r : Record) (a : Identity) (x : Refusal) (ea : a ≡ identity_of r) where
+  -- the rows of a type that is known, from the code's own rows
+  by_kind : (k : RecordType) → t ≡ k → x ≡ first (type_rows (code_of k) c r) → x ≡ first (type_rows (code_of t) c r)
+  by_kind k e q = q ∙ ap (λ (j : RecordType). first (type_rows (code_of j) c r)) (sym e)
 
-  module _ (n7 : t ≡ 7 → ⊥) where
-    pub type_data : t ≡ 5 → x ≡ first (instance_row c.instance_id a.instance_id ∷ epoch_row c.epoch.0 a.epoch.0 ∷ []) → x ≡ first (type_rows t c r)
-    type_data e q =
-        simp (ne_eqb t 7 n7, eq-eqb t 5 e) (q ∙ ap (λ (i : Identity). first (instance_row c.instance_id i.instance_id ∷ epoch_row c.epoch.0 i.epoch.0 ∷ [])) ea)
+  pub type_ready : t ≡ Kind.Ready → x ≡ first (identity_row 7 a.instance_id a.epoch.0 ∷ []) → x ≡ first (type_rows (code_of t) c r)
+  type_ready e q = by_kind Kind.Ready e (q ∙ ap (λ (i : Identity). first (identity_row 7 i.instance_id i.epoch.0 ∷ [])) ea)
 
-    module _ (n5 : t ≡ 5 → ⊥) where
-      pub type_reset : t ≡ 3 → x ≡ first (identity_row 3 a.instance_id a.epoch.0 ∷ instance_row c.instance_id a.instance_id ∷ stale_row c.epoch.0 a.epoch.0 ∷ [])
-          → x ≡ first (type_rows t c r)
-      type_reset e q =
-          simp (ne_eqb t 7 n7, ne_eqb t 5 n5, eq-eqb t 3 e)
-          (q ∙ ap (λ (i : Identity). first (identity_row 3 i.instance_id i.epoch.0 ∷ instance_row c.instance_id i.instance_id ∷ stale_row c.epoch.0 i.epoch.0 ∷ [])) ea)
+  pub type_data : t ≡ Kind.Data → x ≡ first (instance_row c.instance_id a.instance_id ∷ epoch_row c.epoch.0 a.epoch.0 ∷ []) → x ≡ first (type_rows (code_of t) c r)
+  type_data e q = by_kind Kind.Data e (q ∙ ap (λ (i : Identity). first (instance_row c.instance_id i.instance_id ∷ epoch_row c.epoch.0 i.epoch.0 ∷ [])) ea)
 
-      pub type_other : (t ≡ 3 → ⊥) → x ≡ none → x ≡ first (type_rows t c r)
-      type_other n3 q = simp (ne_eqb t 7 n7, ne_eqb t 5 n5, ne_eqb t 3 n3) (no_rows x q)
+  pub type_reset : t ≡ Kind.Reset → x ≡ first (identity_row 3 a.instance_id a.epoch.0 ∷ instance_row c.instance_id a.instance_id ∷ stale_row c.epoch.0 a.epoch.0 ∷ [])
+      → x ≡ first (type_rows (code_of t) c r)
+  type_reset e q =
+      by_kind Kind.Reset e (q ∙ ap (λ (i : Identity). first (identity_row 3 i.instance_id i.epoch.0 ∷ instance_row c.instance_id i.instance_id ∷ stale_row c.epoch.0 i.epoch.0 ∷ [])) ea)
+
+  pub type_other : (t ≡ Kind.Ready → ⊥) → (t ≡ Kind.Data → ⊥) → (t ≡ Kind.Reset → ⊥) → x ≡ none → x ≡ first (type_rows (code_of t) c r)
+  type_other n7 n5 n3 q = go t n7 n5 n3
+    where
+      go : (k : RecordType) → (k ≡ Kind.Ready → ⊥) → (k ≡ Kind.Data → ⊥) → (k ≡ Kind.Reset → ⊥) → x ≡ first (type_rows (code_of k) c r)
+      go Kind.GuestAttach a b d = no_rows x q
+      go Kind.HostAttach a b d = no_rows x q
+      go Kind.Reset a b d = absurd (d refl)
+      go Kind.Ack a b d = no_rows x q
+      go Kind.Data a b d = absurd (b refl)
+      go Kind.Wait a b d = no_rows x q
+      go Kind.Ready a b d = absurd (a refl)
+      go Kind.Error a b d = no_rows x q
+      go Kind.Credit a b d = no_rows x q
 
 pub ruleset typing = (type_ready, type_data, type_reset, type_other)
 
@@ -111,12 +121,12 @@ module _ (h : HostSession) (r : Record) (x : Refusal) (ex : x ≡ first (order_r
   orders = order_rows h.state (code_of r.record_type) r.sequence.0 h.receive_sequence.0
 
   pub record_order : (x.number ≡ 0 → ⊥) → x ≡ first (record_rows h r)
-  record_order n = rows_stop orders (type_rows (code_of r.record_type) h.identity.identity r) x ex n
+  record_order n = rows_stop orders (type_rows (code_of r.record_type) (held h.identity) r) x ex n
 
-  pub record_type_lem : (t : ℕ) (y : Refusal) → x.number ≡ 0 → t ≡ code_of r.record_type → y ≡ first (type_rows t h.identity.identity r) → y ≡ first (record_rows h r)
-  record_type_lem t y z et q =
-      rows_pass orders (type_rows (code_of r.record_type) h.identity.identity r) x y (refl, (refl, (refl, tt))) ex z
-      (q ∙ ap (λ (j : ℕ). first (type_rows j h.identity.identity r)) et)
+  pub record_type_lem : (y : Refusal) (i : Identity) → x.number ≡ 0 → i ≡ held h.identity → y ≡ first (type_rows (code_of r.record_type) i r) → y ≡ first (record_rows h r)
+  record_type_lem y i z ei q =
+      rows_pass orders (type_rows (code_of r.record_type) (held h.identity) r) x y (refl, (refl, (refl, tt))) ex z
+      (q ∙ ap (λ (j : Identity). first (type_rows (code_of r.record_type) j r)) ei)
 
 pub ruleset checking = (record_order, record_type_lem)
 

@@ -20,10 +20,10 @@ use Rattle.parser.specs.Push as pushing
 use Rattle.parser.specs.declared.RecordParser.{RecordParser}
 use Rattle.parser.specs.declared.Place.TheVariants.{Piece}
 use Rattle.parser.specs.declared.Pushed.{Pushed}
-use Rattle.session.specs.Checks.{no_identity, identity_of, last_sequence}
+use Rattle.session.specs.Checks.{held, no_identity, identity_of, last_sequence}
 use Rattle.session.specs.declared.Identity.{Identity}
-use Rattle.session.specs.declared.OptionalIdentity.{OptionalIdentity}
-use Rattle.host.specs.State.{code, is_open, sound_host, with_state, next_host}
+use Rattle.std.specs.Prelude.{Option, Some}
+use Rattle.host.specs.State.{is_open, sound_host, with_state, next_host}
 use Rattle.host.proofs.Soundness.{sound_inside}
 use Rattle.host.specs.Checks.{record_rows}
 use Rattle.host.proofs.Checking.{type_numbered}
@@ -47,7 +47,7 @@ pub not_allowed_is : (h : HostSession) (u : Pushed) (n : ℕ) (x : Refusal) (r :
     → r ≡ refused (refusal 10 n 0 0) (with_state h State.Failed u.parser)
 not_allowed_is h u n x r ex er = er ∙ ap (λ (y : Refusal). refused y (with_state h State.Failed u.parser)) ex
 
-pub report_is : (h s : HostSession) (u : Pushed) (event : HostEvent) (i : Identity) (state : HostState) (o : OptionalIdentity) (x : Refusal) → x ≡ none → s ≡ next_host h state u.parser o
+pub report_is : (h s : HostSession) (u : Pushed) (event : HostEvent) (i : Identity) (state : HostState) (o : Option Identity) (x : Refusal) → x ≡ none → s ≡ next_host h state u.parser o
     → record { refusal = x; consumed = u.consumed; event = event; identity = i; place = Piece 0; length = 0; session = s } ≡ (reports h (told u) event i state o).answer
 report_is h s u event i state o x ex es = λ j. answered (ex j) u.consumed event i (Piece 0) 0 (es j)
 
@@ -65,10 +65,10 @@ module _ (h : HostSession) (u : Pushed) (i : Identity) (r : Received) where
   unfolding effect
   reset_is ei er = er ∙ ap (λ (x : Identity). (reports h (told u) Event.Reset x State.Reset h.identity).answer) ei
 
-  pub ready_is : i ≡ identity_of u.«record» → r ≡ (reports h (told u) Event.Attached i State.Attached (record { present = true; identity = i })).answer
+  pub ready_is : i ≡ identity_of u.«record» → r ≡ (reports h (told u) Event.Attached i State.Attached (Some i)).answer
       → r ≡ (effect Kind.Ready h (told u)).answer
   unfolding effect
-  ready_is ei er = er ∙ ap (λ (x : Identity). (reports h (told u) Event.Attached x State.Attached (record { present = true; identity = x })).answer) ei
+  ready_is ei er = er ∙ ap (λ (x : Identity). (reports h (told u) Event.Attached x State.Attached (Some x)).answer) ei
 
 pub data_is : (h s : HostSession) (u : Pushed) (i : Identity) (x : Refusal) → x ≡ none → i ≡ no_identity → s ≡ next_host h h.state u.parser h.identity
     → record { refusal = x; consumed = u.consumed; event = Event.Data; identity = i; place = u.place; length = u.«record».length; session = s } ≡ (effect Kind.Data h (told u)).answer
@@ -109,7 +109,7 @@ module _ (h : HostSession) (u : Pushed) (x : Refusal) (ex : x ≡ first (record_
   pub accept_follows : x.number ≡ 0 → h.receive_sequence.0 < last_sequence
   accept_follows n =
       ltb-true h.receive_sequence.0 last_sequence
-      (passed (record_rows h u.«record») (refl, (refl, (refl, type_numbered (code_of u.«record».record_type) h.identity.identity u.«record»))) (ap passes (sym ex) ∙ eq-eqb x.number 0 n)).1.1.0
+      (passed (record_rows h u.«record») (refl, (refl, (refl, type_numbered (code_of u.«record».record_type) (held h.identity) u.«record»))) (ap passes (sym ex) ∙ eq-eqb x.number 0 n)).1.1.0
 
   pub accept_does : (r : Received) → x.number ≡ 0 → r ≡ (effect u.«record».record_type h (told u)).answer → r ≡ (accept h (told u)).answer
   unfolding accept
@@ -183,14 +183,6 @@ module _ (h : HostSession) (u : Push) where
       pick_answer (passes u.answer.refusal) _ _ _ _ (pick_answer u.answer.complete (accept h u) _ (accept h (told u.answer)) _ told_accept refl) refl
 
 -- ---- receive
-pub open_low : (s : ℕ) → s < 1 → false ≡ leb 1 s && leb s 2
-open_low s h = simp (lt-leb 1 s h)
-
-pub open_high : (s : ℕ) → 1 ≤ s → leb s 2 ≡ leb 1 s && leb s 2
-open_high s h = simp (le-leb 1 s h)
-
-pub ruleset opening = (open_low, open_high)
-
 pub sound_within : (h : HostSession) (b : Bool) → b ≡ sound_host h → not b ≡ false → sound_parser h.parser ≡ true
 sound_within h b e n = sound_inside h (sym e ∙ not-false b n)
 
@@ -212,22 +204,19 @@ module _ (h : HostSession) (piece stage : List ℕ) (r : Received) where
       pub receive_21 : (x : Refusal) → length stage < 65536 → x ≡ refusal 21 0 0 0 → r ≡ refused x h → outcome r stage ≡ receive_of h piece stage
       receive_21 x l ex er = stops x (row_passes _ _ x _ sound (row_stops _ _ x _ (lt-leb 65536 (length stage) l) ex)) (ap passes ex) er
 
-      module _ (k : ℕ) (o : Bool) (l : 65536 ≤ length stage) (ek : k ≡ code h.state) (eo : o ≡ leb 1 k && leb k 2) where
+      module _ (o : Bool) (l : 65536 ≤ length stage) (eo : o ≡ is_open h.state) where
         long : leb 65536 (length stage) ≡ true
         long = le-leb 65536 (length stage) l
 
-        opened : o ≡ is_open h.state
-        opened = eo ∙ ap (λ (j : ℕ). leb 1 j && leb j 2) ek
-
         pub receive_20 : (x : Refusal) → not o ≡ true → x ≡ refusal 20 0 0 0 → r ≡ refused x h → outcome r stage ≡ receive_of h piece stage
         receive_20 x m ex er =
-            stops x (row_passes _ _ x _ sound (row_passes _ _ x _ long (row_stops _ _ x _ (sym opened ∙ not-true o m) ex))) (ap passes ex) er
+            stops x (row_passes _ _ x _ sound (row_passes _ _ x _ long (row_stops _ _ x _ (sym eo ∙ not-true o m) ex))) (ap passes ex) er
 
         pub receive_pushes : (u : Pushed) (st : List ℕ) → not o ≡ false → pushing.outcome u st ≡ push_of h.parser piece stage → r ≡ (after_push h (told u)).answer
             → outcome r st ≡ receive_of h piece stage
         unfolding receive_of receive receive_stage push_of
         receive_pushes u st m eu er =
-            let f : passes (first (receive_rows h (length stage))) ≡ true = pass_all (receive_rows h (length stage)) (sound, (long, (sym opened ∙ not-false o m, tt))) in
+            let f : passes (first (receive_rows h (length stage))) ≡ true = pass_all (receive_rows h (length stage)) (sound, (long, (sym eo ∙ not-false o m, tt))) in
             let a : u ≡ (push h.parser (length stage) (held_in h.parser stage) piece).answer = ap (λ (x : pushing.Outcome). x.pushed) eu in
             let c : st ≡ push_stage h.parser piece stage = ap (λ (x : pushing.Outcome). x.stage) eu in
             simp f

@@ -6,7 +6,7 @@ use Rattle.outer.specs.Outer.{max_payload, room_row}
 use Rattle.wire.specs.declared.Refusal.{Refusal}
 use Rattle.record.specs.Record.{record_bytes}
 use Rattle.parser.specs.Push.{buffered_of}
-use Rattle.session.specs.Checks.{next_row}
+use Rattle.session.specs.Checks.{held, next_row}
 use Rattle.session.specs.Writes.{identity_bytes}
 use Rattle.host.specs.State.{is_detached, is_attached, is_begun, sound_host, with_state, sent_host}
 use Rattle.host.specs.declared.HostState.TheVariants as State
@@ -64,7 +64,7 @@ send_rows h bytes o at =
 unfoldable pub send : HostSession → List ℕ → List ℕ → ℕ → Outcome
 send h bytes o at =
     writes (first (send_rows h bytes o at)) h (sent_host h) (send_count bytes)
-    (identity_bytes 5 h.identity.identity h.send_sequence.0 (take (send_count bytes) bytes)) o at
+    (identity_bytes 5 (held h.identity) h.send_sequence.0 (take (send_count bytes) bytes)) o at
 
 -- ---- disconnect
 -- n bytes buffered: 19 (a count) leaves Failed, or with none it leads to Closed

@@ -4,7 +4,7 @@ use Rattle.wire.specs.Refusals.{pick, refusal}
 use Rattle.wire.specs.declared.Refusal.{Refusal}
 use Rattle.record.specs.Types.{code_of}
 use Rattle.record.specs.declared.Record.{Record}
-use Rattle.session.specs.Checks.{identity_row, next_row, sequence_row, instance_row, epoch_row}
+use Rattle.session.specs.Checks.{held, identity_row, next_row, sequence_row, instance_row, epoch_row}
 use Rattle.session.specs.declared.Identity.{Identity}
 use Rattle.host.specs.State.{is_attaching, is_attached}
 use Rattle.host.specs.declared.HostState.{HostState}
@@ -35,4 +35,4 @@ order_rows s t actual due = (allowed s t, refusal 10 t 0 0) ∷ sequence_row due
 abbrev pub record_rows : HostSession → Record → List (Bool × Refusal)
 record_rows h r =
     let t : ℕ = code_of r.record_type in
-    order_rows h.state t r.sequence.0 h.receive_sequence.0 ++ type_rows t h.identity.identity r
+    order_rows h.state t r.sequence.0 h.receive_sequence.0 ++ type_rows t (held h.identity) r

@@ -1,6 +1,6 @@
 -- The rule of a host's receive (01, "receive"). What it answers depends on the stage only by its length and by `held`, the payload bytes
 -- that have come; what it leaves in the stage is a rule of its own, `receive_stage`.
-use Rattle.std.specs.Prelude.{ℕ, Bool, true, List, [], ◌∷◌, length, leb}
+use Rattle.std.specs.Prelude.{ℕ, Bool, List, [], ◌∷◌, length, leb, Option, Some}
 use Rattle.wire.specs.Refusals.{pick, refusal, none, first, passes}
 use Rattle.outer.specs.Outer.{max_payload}
 use Rattle.wire.specs.declared.Refusal.{Refusal}
@@ -13,7 +13,6 @@ use Rattle.parser.specs.declared.Place.TheVariants.{Piece}
 use Rattle.parser.specs.declared.Pushed.{Pushed}
 use Rattle.session.specs.Checks.{no_identity, identity_of}
 use Rattle.session.specs.declared.Identity.{Identity}
-use Rattle.session.specs.declared.OptionalIdentity.{OptionalIdentity}
 use Rattle.host.specs.State.{is_open, sound_host, with_state, next_host}
 use Rattle.host.specs.declared.HostState.{HostState}
 use Rattle.host.specs.declared.HostState.TheVariants as State
@@ -46,7 +45,7 @@ abbrev pub fail_with : HostSession → Push → Refusal → Receive
 fail_with h u r = record { answer = refused r (with_state h State.Failed u.answer.parser); held = u.held; payload = [] }
 
 -- an event with no payload
-abbrev pub reports : HostSession → Push → HostEvent → Identity → HostState → OptionalIdentity → Receive
+abbrev pub reports : HostSession → Push → HostEvent → Identity → HostState → Option Identity → Receive
 reports h u event i s o =
     record { answer = answered none u.answer.consumed event i (Piece 0) 0 (next_host h s u.answer.parser o); held = u.held; payload = [] }
 
@@ -64,7 +63,7 @@ effect Kind.Data h u =
       payload = u.payload;
     }
 effect Kind.Wait h u = reports h u Event.Wait no_identity h.state h.identity
-effect Kind.Ready h u = reports h u Event.Attached (identity_of u.answer.«record») State.Attached (record { present = true; identity = identity_of u.answer.«record» })
+effect Kind.Ready h u = reports h u Event.Attached (identity_of u.answer.«record») State.Attached (Some (identity_of u.answer.«record»))
 effect Kind.Error h u = reports h u Event.Rejected no_identity State.Rejected h.identity
 effect Kind.Credit h u = fail_with h u (refusal 10 9 0 0)
 

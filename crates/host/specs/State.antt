@@ -1,9 +1,9 @@
 -- The host's states by number, its session values, and soundness (01, "Host" and "What stops each operation").
-use Rattle.std.specs.Prelude.{ℕ, ◌+◌, Bool, false, not, ◌&&◌, ◌||◌, eqb, leb}
+use Rattle.std.specs.Prelude.{ℕ, ◌+◌, Bool, not, ◌&&◌, ◌||◌, eqb, leb, Option, None}
 use Rattle.parser.specs.Push.{fresh, sound_parser}
 use Rattle.parser.specs.declared.RecordParser.{RecordParser}
-use Rattle.session.specs.Checks.{no_identity, holds}
-use Rattle.session.specs.declared.OptionalIdentity.{OptionalIdentity}
+use Rattle.session.specs.Checks.{holds}
+use Rattle.session.specs.declared.Identity.{Identity}
 use Rattle.host.specs.declared.HostState.{HostState}
 use Rattle.host.specs.declared.HostState.TheVariants as State
 use Rattle.host.specs.declared.HostSession.{HostSession}
@@ -40,7 +40,7 @@ fresh_host =
     record {
       state = State.Detached;
       parser = fresh;
-      identity = record { present = false; identity = no_identity };
+      identity = None;
       receive_sequence = record { 0 = 0 };
       send_sequence = record { 0 = 0 };
     }
@@ -62,7 +62,7 @@ with_state h s p =
     }
 
 -- an accepted record: the state and the identity it leads to, the next sequence due one more
-abbrev pub next_host : HostSession → HostState → RecordParser → OptionalIdentity → HostSession
+abbrev pub next_host : HostSession → HostState → RecordParser → Option Identity → HostSession
 next_host h s p i =
     record {
       state = s;

@@ -1,5 +1,5 @@
 // The host's receive (01, "receive"): it takes the session and answers with the session after it.
-ghost use Rattle.std.specs.Prelude.{◌≡◌, ◌&&◌, ◌<◌, ◌+◌, ◌^◌, leb};
+ghost use Rattle.std.specs.Prelude.{◌≡◌, ◌<◌, ◌+◌, ◌^◌};
 ghost use Rattle.wire.specs.Refusals.{refusal};
 ghost use Rattle.record.specs.declared.types.RecordType.TheVariants as Kind;
 ghost use Rattle.parser.specs.Push.{waiting};
@@ -14,13 +14,13 @@ use outer::{OUTER_HEADER_LEN, OUTER_MAX_PAYLOAD};
 use parser::push::push;
 use parser::{Place, Pushed, RecordParser};
 use record::types::RecordType;
-use session::{Identity, OptionalIdentity, identity_in, no_identity};
+use session::{Identity, identity_in, no_identity};
 use wire::copying::copy_at;
 use wire::{Refusal, Sequence};
 
 // What a receive reports. The identity of READY and RESET stands beside it in the answer; the bytes
 // of data are had by `payload`. A rejection carries the one error code there is.
-#[derive(Clone, Copy)]
+#[derive(Clone, Copy, Debug, PartialEq, Eq)]
 pub enum HostEvent {
     Nothing,
     Wait,
@@ -42,22 +42,12 @@ pub struct Received {
     pub session: HostSession,
 }
 
-// Whether a host receives in a state.
-fn is_open(state: u8) -> bool
-    ensures { result ≡ leb 1 state && leb state 2 }
-{
-    if state < 1 {
-        return false;
-    }
-    state <= 2
-}
-
 // The session after a record: the state and the identity that it leads to.
 fn next_session(
     session: HostSession,
     state: HostState,
     parser: RecordParser,
-    identity: OptionalIdentity,
+    identity: Option<Identity>,
 ) -> HostSession
     requires { session.receive_sequence.0 < last_sequence }
     ensures { result ≡ next_host session state parser identity }
@@ -101,7 +91,7 @@ fn report(
     event: HostEvent,
     identity: Identity,
     state: HostState,
-    held: OptionalIdentity,
+    held: Option<Identity>,
 ) -> Received
     requires { session.receive_sequence.0 < last_sequence }
     ensures { result ≡ (reports session (told pushed) event identity state held).answer }
@@ -139,17 +129,13 @@ fn on_ready(session: HostSession, pushed: Pushed) -> Received
     ensures { result ≡ (effect Kind.Ready session (told pushed)).answer }
 {
     let identity = identity_in(pushed.record);
-    let held = OptionalIdentity {
-        present: true,
-        identity,
-    };
     report(
         session,
         pushed,
         HostEvent::Attached,
         identity,
         HostState::Attached,
-        held,
+        Some(identity),
     )
 }
 
@@ -303,8 +289,7 @@ pub fn receive(session: HostSession, piece: &[u8], stage: &mut [u8]) -> Received
     if stage.len() < OUTER_MAX_PAYLOAD {
         return refuse(session, Refusal::new(21, 0, 0, 0));
     }
-    let state = session.state;
-    if !is_open(state.number()) {
+    if !session.state.is_open() {
         return refuse(session, Refusal::new(20, 0, 0, 0));
     }
     if session.parser.stays_open(piece.len()) {

@@ -4,7 +4,7 @@ ghost use Rattle.host.specs.Asks.{state_told, state_of, identity_told, identity_
 
 use crate::{HostSession, HostState};
 use parser::Count;
-use session::{OptionalIdentity, no_identity};
+use session::Identity;
 use wire::Refusal;
 
 // What `state` answers.
@@ -18,7 +18,7 @@ pub struct StateAnswer {
 #[derive(Clone, Copy)]
 pub struct IdentityAnswer {
     pub refusal: Refusal,
-    pub identity: OptionalIdentity,
+    pub identity: Option<Identity>,
 }
 
 // The answer of `state`.
@@ -29,7 +29,7 @@ fn state_told(refusal: Refusal, state: HostState) -> StateAnswer
 }
 
 // The answer of `identity`.
-fn identity_told(refusal: Refusal, identity: OptionalIdentity) -> IdentityAnswer
+fn identity_told(refusal: Refusal, identity: Option<Identity>) -> IdentityAnswer
     ensures { result ≡ identity_told refusal identity }
 {
     IdentityAnswer { refusal, identity }
@@ -51,13 +51,9 @@ pub fn identity(session: HostSession) -> IdentityAnswer
     ensures { result ≡ identity_of session }
 {
     if session.is_sound() {
-        return identity_told(Refusal::none(), session.identity.shown());
+        return identity_told(Refusal::none(), session.identity);
     }
-    let missing = OptionalIdentity {
-        present: false,
-        identity: no_identity(),
-    };
-    identity_told(Refusal::new(23, 0, 0, 0), missing)
+    identity_told(Refusal::new(23, 0, 0, 0), None)
 }
 
 // How many more bytes complete the header or the payload in progress.

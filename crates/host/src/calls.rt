@@ -12,6 +12,7 @@ use outer::Written;
 use record::codec::encode_record;
 use record::types::RecordType;
 use session::checks::stopped;
+use session::held;
 use session::next::encode_data;
 use wire::{Epoch, Refusal, Sequence};
 
@@ -83,8 +84,7 @@ fn sent_session(mut session: HostSession, send_sequence: Sequence) -> HostSessio
 pub fn attach(session: HostSession, capability: [u8; 32], output: &mut [u8], at: usize) -> Sent
     ensures { outcome result output.new ≡ rule.attach session capability output.old at }
 {
-    let held = session.state;
-    let refusal = stopped(session.is_sound(), held.number(), 0);
+    let refusal = stopped(session.is_sound(), session.state == HostState::Detached);
     if refusal.number != 0 {
         return not_sent(session, refusal);
     }
@@ -103,13 +103,12 @@ pub fn attach(session: HostSession, capability: [u8; 32], output: &mut [u8], at:
 pub fn send(session: HostSession, bytes: &[u8], output: &mut [u8], at: usize) -> Sent
     ensures { outcome result output.new ≡ rule.send session bytes.now output.old at }
 {
-    let held = session.state;
-    let refusal = stopped(session.is_sound(), held.number(), 2);
+    let refusal = stopped(session.is_sound(), session.state == HostState::Attached);
     if refusal.number != 0 {
         return not_sent(session, refusal);
     }
     let encoded = encode_data(
-        session.identity.identity,
+        held(session.identity),
         session.send_sequence,
         bytes,
         output,
@@ -151,8 +150,7 @@ pub fn disconnect(session: HostSession) -> Closed
             session,
         };
     }
-    let state = session.state;
-    if 3 <= state.number() {
+    if !session.state.is_begun() {
         return Closed {
             refusal: Refusal::none(),
             session,

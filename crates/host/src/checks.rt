@@ -9,44 +9,35 @@ use crate::{HostSession, HostState};
 use record::Record;
 use record::types::RecordType;
 use session::checks::{check_identity, check_instance, check_sequence};
-use session::{Identity, identity_in, is_identity, next_sequence};
+use session::{Identity, held, identity_in, is_identity, next_sequence};
 use wire::{Refusal, Sequence};
 
 // Whether a type belongs to an attachment: Wait, Ready, Error.
-fn is_attachment(kind: u8) -> bool
-    ensures { result ≡ eqb kind 6 || (eqb kind 7 || eqb kind 8) }
+fn is_attachment(kind: RecordType) -> bool
+    ensures { result ≡ eqb (code_of kind) 6 || (eqb (code_of kind) 7 || eqb (code_of kind) 8) }
 {
-    if kind == 6 {
-        return true;
-    }
-    if kind == 7 {
-        return true;
-    }
-    kind == 8
+    matches!(
+        kind,
+        RecordType::Wait | RecordType::Ready | RecordType::Error
+    )
 }
 
 // Whether a type belongs to a session: Data, Reset.
-fn is_traffic(kind: u8) -> bool
-    ensures { result ≡ eqb kind 5 || eqb kind 3 }
+fn is_traffic(kind: RecordType) -> bool
+    ensures { result ≡ eqb (code_of kind) 5 || eqb (code_of kind) 3 }
 {
-    if kind == 5 {
-        return true;
-    }
-    kind == 3
+    matches!(kind, RecordType::Data | RecordType::Reset)
 }
 
 // Whether a type is allowed in a state.
-fn is_allowed(state: HostState, kind: u8) -> bool
-    ensures { result ≡ allowed state kind }
+fn is_allowed(state: HostState, kind: RecordType) -> bool
+    ensures { result ≡ allowed state (code_of kind) }
 {
-    let number = state.number();
-    if number == 1 {
-        return is_attachment(kind);
+    match state {
+        HostState::Attaching => is_attachment(kind),
+        HostState::Attached => is_traffic(kind),
+        _ => false,
     }
-    if number == 2 {
-        return is_traffic(kind);
-    }
-    false
 }
 
 // What stops a record by its type and sequence: 10, 15, 16.
@@ -58,9 +49,8 @@ fn check_order(
 ) -> Refusal
     ensures { result ≡ first (order_rows state (code_of record_type) actual.0 due.0) }
 {
-    let code = record_type.code();
-    if !is_allowed(state, code) {
-        return Refusal::new(10, code as u64, 0, 0);
+    if !is_allowed(state, record_type) {
+        return Refusal::new(10, record_type.code() as u64, 0, 0);
     }
     let sequence = check_sequence(actual, due);
     if sequence.number != 0 {
@@ -71,21 +61,21 @@ fn check_order(
 }
 
 // What stops a record that must carry an identity: 11.
-fn check_carried(code: u8, actual: Identity) -> Refusal
-    ensures { result ≡ first (identity_row code actual.instance_id actual.epoch.0 ∷ []) }
+fn check_carried(kind: RecordType, actual: Identity) -> Refusal
+    ensures { result ≡ first (identity_row (code_of kind) actual.instance_id actual.epoch.0 ∷ []) }
 {
     let instance_id = actual.instance_id;
     if is_identity(instance_id, actual.epoch) {
         return Refusal::none();
     }
-    Refusal::new(11, code as u64, 0, 0)
+    Refusal::new(11, kind.code() as u64, 0, 0)
 }
 
 // What stops a RESET: 11, 12, 14.
 fn check_reset(actual: Identity, current: Identity) -> Refusal
     ensures { result ≡ first (identity_row 3 actual.instance_id actual.epoch.0 ∷ instance_row current.instance_id actual.instance_id ∷ stale_row current.epoch.0 actual.epoch.0 ∷ []) }
 {
-    let missing = check_carried(3, actual);
+    let missing = check_carried(RecordType::Reset, actual);
     if missing.number != 0 {
         return missing;
     }
@@ -102,20 +92,16 @@ fn check_reset(actual: Identity, current: Identity) -> Refusal
 }
 
 // What stops a record by its identity: Ready 11; Data 12, 13; Reset 11, 12, 14.
-fn check_type(code: u8, current: Identity, record: Record) -> Refusal
-    ensures { result ≡ first (type_rows code current «record») }
+fn check_type(kind: RecordType, current: Identity, record: Record) -> Refusal
+    ensures { result ≡ first (type_rows (code_of kind) current «record») }
 {
     let actual = identity_in(record);
-    if code == 7 {
-        return check_carried(7, actual);
+    match kind {
+        RecordType::Ready => check_carried(RecordType::Ready, actual),
+        RecordType::Data => check_identity(actual, current),
+        RecordType::Reset => check_reset(actual, current),
+        _ => Refusal::none(),
     }
-    if code == 5 {
-        return check_identity(actual, current);
-    }
-    if code == 3 {
-        return check_reset(actual, current);
-    }
-    Refusal::none()
 }
 
 // What stops a whole record.
@@ -133,5 +119,5 @@ pub(crate) fn check_record(session: HostSession, record: Record) -> Refusal
     if order.number != 0 {
         return order;
     }
-    check_type(record_type.code(), session.identity.identity, record)
+    check_type(record_type, held(session.identity), record)
 }

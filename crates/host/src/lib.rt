@@ -8,21 +8,21 @@ mod asks;
 mod calls;
 mod checks;
 
-ghost use Rattle.std.specs.Prelude.{◌≡◌, not, ◌||◌, eqb};
+ghost use Rattle.std.specs.Prelude.{◌≡◌, not, ◌||◌};
 ghost use Rattle.session.specs.Checks.{holds};
-ghost use Rattle.host.specs.State.{code, fresh_host, sound_host, with_state};
+ghost use Rattle.host.specs.State.{code, is_attached, is_open, is_begun, fresh_host, sound_host, with_state};
 
 pub use crate::accept::{HostEvent, Received, receive};
 pub use crate::asks::{IdentityAnswer, StateAnswer, identity, needed, state};
 pub use crate::calls::{Closed, Sent, attach, disconnect, send};
 use parser::RecordParser;
 pub use parser::{Count, Place, payload};
-use session::no_identity;
-pub use session::{Identity, OptionalIdentity};
+pub use session::Identity;
+use session::is_held;
 pub use wire::{Epoch, Refusal, Sequence};
 
 // State of the host's session.
-#[derive(Clone, Copy)]
+#[derive(Clone, Copy, Debug, PartialEq, Eq)]
 pub enum HostState {
     Detached,
     Attaching,
@@ -37,7 +37,7 @@ pub enum HostState {
 #[derive(Clone, Copy)]
 pub struct HostSession {
     pub parser: RecordParser,
-    pub identity: OptionalIdentity,
+    pub identity: Option<Identity>,
     pub receive_sequence: Sequence,
     pub send_sequence: Sequence,
     pub state: HostState,
@@ -58,16 +58,33 @@ impl HostState {
             HostState::Failed => 6,
         }
     }
+
+    // Whether a host receives in the state.
+    pub(crate) fn is_open(self) -> bool
+        ensures { result ≡ is_open self }
+    {
+        matches!(self, HostState::Attaching | HostState::Attached)
+    }
+
+    // Whether disconnect acts in the state: the first three.
+    pub(crate) fn is_begun(self) -> bool
+        ensures { result ≡ is_begun self }
+    {
+        matches!(
+            self,
+            HostState::Detached | HostState::Attaching | HostState::Attached
+        )
+    }
 }
 
 // Whether Attached holds an identity.
-fn identity_ok(state: u8, identity: OptionalIdentity) -> bool
-    ensures { result ≡ not (eqb state 2) || holds identity }
+fn identity_ok(state: HostState, identity: Option<Identity>) -> bool
+    ensures { result ≡ not (is_attached state) || holds identity }
 {
-    if state != 2 {
-        return true;
+    match state {
+        HostState::Attached => is_held(identity),
+        _ => true,
     }
-    identity.is_held()
 }
 
 impl HostSession {
@@ -77,10 +94,7 @@ impl HostSession {
     {
         HostSession {
             parser: RecordParser::new(),
-            identity: OptionalIdentity {
-                present: false,
-                identity: no_identity(),
-            },
+            identity: None,
             receive_sequence: Sequence(0),
             send_sequence: Sequence(0),
             state: HostState::Detached,
@@ -94,8 +108,7 @@ impl HostSession {
         if !self.parser.is_sound() {
             return false;
         }
-        let state = self.state;
-        identity_ok(state.number(), self.identity)
+        identity_ok(self.state, self.identity)
     }
 
     // The session in another state with another parser, all else unchanged.

@@ -1,9 +1,9 @@
 // The bytes of what an answer has (tests/differential/FORMAT.md), appended one after another.
-use crate::options::{identity_of, number_of, refusal_of};
+use crate::options::{number_of, refusal_of};
 use guest::GuestSession;
 use host::HostSession;
 use parser::RecordParser;
-use session::{Identity, OptionalIdentity, no_identity};
+use session::{Identity, no_identity};
 use std::alloc::AllocError;
 use wire::{Epoch, Refusal, Sequence};
 
@@ -83,18 +83,17 @@ impl Bytes for RecordParser {
 struct Common {
     state: u8,
     parser: RecordParser,
-    identity: OptionalIdentity,
+    identity: Option<Identity>,
     due: Sequence,
     send: Sequence,
 }
 
 impl Bytes for Common {
     fn append(self, out: &mut Vec<u8>) -> Result<(), AllocError> {
-        let identity = identity_of(self.identity);
         u64::from(self.state).append(out)?;
         self.parser.append(out)?;
-        u64::from(identity.is_some()).append(out)?;
-        identity.append(out)?;
+        u64::from(self.identity.is_some()).append(out)?;
+        self.identity.append(out)?;
         self.due.0.append(out)?;
         self.send.0.append(out)
     }

@@ -3,7 +3,7 @@ use crate::answer::{Answer, Part, State};
 use crate::ends::End;
 use crate::frames::Frame;
 use crate::operations::WriteCall;
-use crate::options::{identity_of, refusal_of, window_of};
+use crate::options::{refusal_of, window_of};
 use entries::guest_entry::{credit_once, receive_once};
 use guest::{GuestEvent, GuestSession};
 use wire::Sequence;
@@ -69,7 +69,7 @@ impl End for GuestSession {
             refusal: refusal_of(asked.refusal),
             count: u64::from(guest::outstanding(*self).outstanding),
             next: guest::needed(*self).count as u64,
-            identity: identity_of(guest::identity(*self).identity),
+            identity: guest::identity(*self).identity,
             window: window_of(guest::window(*self)),
             ..Answer::default()
         }

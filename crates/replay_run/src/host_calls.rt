@@ -3,7 +3,7 @@ use crate::answer::{Answer, Part, State};
 use crate::ends::End;
 use crate::frames::{AREA, Frame};
 use crate::operations::WriteCall;
-use crate::options::{identity_of, refusal_of};
+use crate::options::refusal_of;
 use entries::host_entry::receive_once;
 use host::{HostEvent, HostSession, Sent};
 use wire::Sequence;
@@ -79,7 +79,7 @@ impl End for HostSession {
             event: asked.state.number(),
             refusal: refusal_of(asked.refusal),
             next: host::needed(*self).count as u64,
-            identity: identity_of(host::identity(*self).identity),
+            identity: host::identity(*self).identity,
             ..Answer::default()
         }
     }

@@ -4,7 +4,6 @@ use outer::payloads::EncodedPayload;
 use parser::{Place, Pushed};
 use record::types::{ErrorCode, ErrorLookup, RecordType, TypeLookup};
 use record::{Record, Value};
-use session::{Identity, OptionalIdentity};
 use wire::Refusal;
 
 pub fn refusal_of(refusal: Refusal) -> Option<Refusal> {
@@ -14,10 +13,6 @@ pub fn refusal_of(refusal: Refusal) -> Option<Refusal> {
 // A refusal's number; 0 where there is none.
 pub fn number_of(refusal: Option<Refusal>) -> u8 {
     refusal.map_or(0, |r| u8::try_from(r.number).unwrap_or(u8::MAX))
-}
-
-pub fn identity_of(held: OptionalIdentity) -> Option<Identity> {
-    held.present.then_some(held.identity)
 }
 
 pub fn value_of(value: Value) -> Option<u32> {

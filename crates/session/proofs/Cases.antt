@@ -1,60 +1,37 @@
 -- The cases of the shared checks, a law for each `return` of the code. Assumes nothing.
 use Prim.Native.Nat.{ℕ, ◌+◌, ◌≤◌, ◌<◌}
 use mathlib.Core.Path.{◌≡◌, refl, sym, ap, ◌∙◌}
-use mathlib.Core.Bool.{Bool, true, false, not, ◌&&◌}
+use mathlib.Core.Bool.{Bool, true, false, not}
 use mathlib.Core.List.{List, [], ◌∷◌}
 use lib.Dec.{eqb, ltb}
-use borrow.Author.Tests.{lt-ltb, le-ltb, eq-eqb, ne_eqb, not-true, not-false}
+use borrow.Author.Tests.{lt-ltb, le-ltb, not-true, not-false}
 use Rattle.wire.specs.Refusals.{pick, refusal, none, first}
 use Rattle.wire.specs.declared.Refusal.{Refusal}
 use Rattle.wire.proofs.Rows.{row_stops, row_passes, no_rows, rows_stop, rows_pass}
 use Rattle.record.specs.Record.{all_zero}
 use Rattle.record.specs.declared.Record.{Record}
-use Rattle.session.specs.Checks.{same, no_identity, identity_ok, holds, shown, record_identity, last_sequence, next_row, next_sequence, sequence_row, other_instance, instance_row, epoch_row}
-use Rattle.session.specs.declared.Identity.{Identity}
-use Rattle.session.specs.declared.OptionalIdentity.{OptionalIdentity}
+use Rattle.session.specs.Checks.{same, identity_ok, record_identity, last_sequence, next_row, next_sequence, sequence_row, other_instance, instance_row, epoch_row}
+use Rattle.std.specs.Prelude.{Some, None}
 use Rattle.session.specs.declared.NextSequence.{NextSequence}
 
 -- ---- identities
 module _ (i : List ℕ) (e : ℕ) (z : Bool) (ez : z ≡ all_zero i) where
-  pub identity_zero : z ≡ true → false ≡ identity_ok i e
+  pub identity_zero : not z ≡ false → not z ≡ identity_ok i e
   unfolding identity_ok
-  identity_zero t = simp (identity_ok, ← ez, t)
+  identity_zero t = simp (identity_ok, ← ez, not-false z t)
 
-  pub identity_epoch : z ≡ false → not (eqb e 0) ≡ identity_ok i e
+  pub identity_epoch : not z ≡ true → not (eqb e 0) ≡ identity_ok i e
   unfolding identity_ok
-  identity_epoch t = simp (identity_ok, ← ez, t)
-
-pub ruleset identifying = (identity_zero, identity_epoch)
-
-pub held_not : (i : OptionalIdentity) → not i.present ≡ true → false ≡ holds i
-unfolding holds
-held_not i n = ap (λ (b : Bool). b && identity_ok i.identity.instance_id i.identity.epoch.0) (sym (not-true i.present n))
-
-pub held_told : (i : OptionalIdentity) (b : Bool) → not i.present ≡ false → b ≡ identity_ok i.identity.instance_id i.identity.epoch.0 → b ≡ holds i
-unfolding holds
-held_told i b n q = q ∙ ap (λ (t : Bool). t && identity_ok i.identity.instance_id i.identity.epoch.0) (sym (not-false i.present n))
-
-pub ruleset holding = (held_not, held_told)
-
-pub shown_some : (i : OptionalIdentity) → i.present ≡ true → record { present = true; identity = i.identity } ≡ shown i
-shown_some i e = ap (λ (b : Bool). pick b (record { present = true; identity = i.identity }) (record { present = false; identity = no_identity })) (sym e)
-
-pub shown_none : (i : OptionalIdentity) (n : Identity) → i.present ≡ false → n ≡ no_identity → record { present = false; identity = n } ≡ shown i
-shown_none i n e q =
-    ap (λ (x : Identity). record { present = false; identity = x }) q
-    ∙ ap (λ (b : Bool). pick b (record { present = true; identity = i.identity }) (record { present = false; identity = no_identity })) (sym e)
-
-pub ruleset showing = (shown_some, shown_none)
+  identity_epoch t = simp (identity_ok, ← ez, not-true z t)
 
 module _ (r : Record) (b : Bool) (eb : b ≡ identity_ok r.instance_id r.epoch.0) where
-  pub carries : b ≡ true → record { present = true; identity = record { instance_id = r.instance_id; epoch = r.epoch } } ≡ record_identity r
+  pub carries : b ≡ true → Some (record { instance_id = r.instance_id; epoch = r.epoch }) ≡ record_identity r
   unfolding record_identity
   carries e = simp (record_identity, ← eb, e)
 
-  pub carries_none : (n : Identity) → b ≡ false → n ≡ no_identity → record { present = false; identity = n } ≡ record_identity r
+  pub carries_none : b ≡ false → None ≡ record_identity r
   unfolding record_identity
-  carries_none n e q = simp (record_identity, ← eb, e) (ap (λ (x : Identity). record { present = false; identity = x }) q)
+  carries_none e = simp (record_identity, ← eb, e)
 
 pub ruleset carrying = (carries, carries_none)
 
@@ -70,11 +47,11 @@ next_none s t k x h ek e =
 
 pub ruleset following = (next_some, next_none)
 
-pub sequence_same : (expected actual : ℕ) (x : Refusal) → actual ≡ expected → x ≡ none → x ≡ first (sequence_row expected actual ∷ [])
-sequence_same expected actual x e q = row_passes _ _ x [] (eq-eqb actual expected e) (no_rows x q)
+pub sequence_same : (expected actual : ℕ) (b : Bool) (x : Refusal) → b ≡ eqb actual expected → b ≡ true → x ≡ none → x ≡ first (sequence_row expected actual ∷ [])
+sequence_same expected actual b x eb e q = row_passes _ _ x [] (sym eb ∙ e) (no_rows x q)
 
-pub sequence_other : (expected actual : ℕ) (x : Refusal) → (actual ≡ expected → ⊥) → x ≡ refusal 15 expected actual 0 → x ≡ first (sequence_row expected actual ∷ [])
-sequence_other expected actual x n q = row_stops _ _ x [] (ne_eqb actual expected n) q
+pub sequence_other : (expected actual : ℕ) (b : Bool) (x : Refusal) → b ≡ eqb actual expected → b ≡ false → x ≡ refusal 15 expected actual 0 → x ≡ first (sequence_row expected actual ∷ [])
+sequence_other expected actual b x eb e q = row_stops _ _ x [] (sym eb ∙ e) q
 
 pub ruleset sequencing = (sequence_same, sequence_other)
 
@@ -94,11 +71,11 @@ module _ (ei ai : List ℕ) (ee ae : ℕ) (x : Refusal) (ex : x ≡ first (insta
     rest : y ≡ first (epoch_row ee ae ∷ []) → y ≡ first (instance_row ei ai ∷ epoch_row ee ae ∷ [])
     rest q = rows_pass (instance_row ei ai ∷ []) (epoch_row ee ae ∷ []) x y (refl, tt) ex z q
 
-    pub same_epoch : ae ≡ ee → y ≡ none → y ≡ first (instance_row ei ai ∷ epoch_row ee ae ∷ [])
-    same_epoch e q = rest (row_passes _ _ y [] (eq-eqb ae ee e) (no_rows y q))
+    pub same_epoch : (b : Bool) → b ≡ eqb ae ee → b ≡ true → y ≡ none → y ≡ first (instance_row ei ai ∷ epoch_row ee ae ∷ [])
+    same_epoch b eb e q = rest (row_passes _ _ y [] (sym eb ∙ e) (no_rows y q))
 
-    pub wrong_epoch : (ae ≡ ee → ⊥) → y ≡ refusal 13 ee ae 0 → y ≡ first (instance_row ei ai ∷ epoch_row ee ae ∷ [])
-    wrong_epoch n q = rest (row_stops _ _ y [] (ne_eqb ae ee n) q)
+    pub wrong_epoch : (b : Bool) → b ≡ eqb ae ee → b ≡ false → y ≡ refusal 13 ee ae 0 → y ≡ first (instance_row ei ai ∷ epoch_row ee ae ∷ [])
+    wrong_epoch b eb e q = rest (row_stops _ _ y [] (sym eb ∙ e) q)
 
 pub ruleset identity-checks = (wrong_instance, same_epoch, wrong_epoch)
 

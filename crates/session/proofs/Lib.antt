@@ -1,4 +1,3 @@
-pub mod Same
 pub mod Cases
 pub mod Stopping
 pub mod NextCases

@@ -1,19 +1,16 @@
 -- Identities and the shared checks (01, "Shared checks").
-use Rattle.std.specs.Prelude.{ℕ, ◌+◌, Bool, true, false, not, ◌&&◌, List, [], ◌∷◌, replicate, eqb, ltb}
+use Rattle.std.specs.Prelude.{ℕ, ◌+◌, Bool, false, not, ◌&&◌, List, replicate, eqb, ltb, Option, Some, None}
+use Rattle.std.specs.Cmp.Lexicographic.{pointwise}
 use Rattle.wire.specs.Refusals.{pick, refusal, none}
 use Rattle.wire.specs.declared.Refusal.{Refusal}
 use Rattle.record.specs.Record.{all_zero}
 use Rattle.record.specs.declared.Record.{Record}
 use Rattle.session.specs.declared.Identity.{Identity}
-use Rattle.session.specs.declared.OptionalIdentity.{OptionalIdentity}
 use Rattle.session.specs.declared.NextSequence.{NextSequence}
 
 -- the same bytes
 unfoldable pub same : List ℕ → List ℕ → Bool
-same [] [] = true
-same [] (y ∷ ys) = false
-same (x ∷ xs) [] = false
-same (x ∷ xs) (y ∷ ys) = eqb x y && same xs ys
+same a b = pointwise eqb a b
 
 abbrev pub identity : List ℕ → ℕ → Identity
 identity instance epoch = record { instance_id = instance; epoch = record { 0 = epoch } }
@@ -26,21 +23,22 @@ no_identity = identity (replicate 16 0) 0
 unfoldable pub identity_ok : List ℕ → ℕ → Bool
 identity_ok instance epoch = not (all_zero instance) && not (eqb epoch 0)
 
--- marked, with an instance not all zero and an epoch not 0
-unfoldable pub holds : OptionalIdentity → Bool
-holds i = i.present && identity_ok i.identity.instance_id i.identity.epoch.0
+-- an identity that is one
+unfoldable pub holds : Option Identity → Bool
+holds None = false
+holds (Some i) = identity_ok i.instance_id i.epoch.0
 
--- what an ask shows: the identity where one is marked, else none
-abbrev pub shown : OptionalIdentity → OptionalIdentity
-shown i = pick i.present (record { present = true; identity = i.identity }) (record { present = false; identity = no_identity })
+-- the identity that is held, or no identity
+abbrev pub held : Option Identity → Identity
+held None = no_identity
+held (Some i) = i
 
 -- the identity that a record carries
 abbrev pub identity_of : Record → Identity
 identity_of r = identity r.instance_id r.epoch.0
 
-unfoldable pub record_identity : Record → OptionalIdentity
-record_identity r =
-    pick (identity_ok r.instance_id r.epoch.0) (record { present = true; identity = identity_of r }) (record { present = false; identity = no_identity })
+unfoldable pub record_identity : Record → Option Identity
+record_identity r = pick (identity_ok r.instance_id r.epoch.0) (Some (identity_of r)) None
 
 -- the last sequence, 2^64 − 1
 abbrev pub last_sequence : ℕ

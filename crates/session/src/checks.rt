@@ -1,6 +1,6 @@
 // The checks that both ends share (nvxs/mod.rs): on the state that a call needs, and on a record's
 // sequence and identity.
-ghost use Rattle.std.specs.Prelude.{◌≡◌, [], ◌∷◌, eqb};
+ghost use Rattle.std.specs.Prelude.{◌≡◌, [], ◌∷◌};
 ghost use Rattle.wire.specs.Refusals.{first, refusal};
 ghost use Rattle.session.specs.Checks.{sequence_row, other_instance, instance_row, epoch_row};
 
@@ -9,13 +9,13 @@ use wire::{Refusal, Sequence};
 
 // What stops a call that works in one state: 23 unsound, 20 another state. It is given what the
 // session answers and not the session, which would be copied once more.
-pub fn stopped(sound: bool, held: u8, state: u8) -> Refusal
-    ensures { result ≡ first ((sound, refusal 23 0 0 0) ∷ (eqb held state, refusal 20 0 0 0) ∷ []) }
+pub fn stopped(sound: bool, in_state: bool) -> Refusal
+    ensures { result ≡ first ((sound, refusal 23 0 0 0) ∷ (in_state, refusal 20 0 0 0) ∷ []) }
 {
     if !sound {
         return Refusal::new(23, 0, 0, 0);
     }
-    if held != state {
+    if !in_state {
         return Refusal::new(20, 0, 0, 0);
     }
     Refusal::none()
@@ -25,7 +25,7 @@ pub fn stopped(sound: bool, held: u8, state: u8) -> Refusal
 pub fn check_sequence(actual: Sequence, expected: Sequence) -> Refusal
     ensures { result ≡ first (sequence_row expected.0 actual.0 ∷ []) }
 {
-    if actual.0 == expected.0 {
+    if actual == expected {
         return Refusal::none();
     }
     Refusal::new(15, expected.0, actual.0, 0)
@@ -65,7 +65,7 @@ pub fn check_identity(actual: Identity, expected: Identity) -> Refusal
     if refusal.number != 0 {
         return refusal;
     }
-    if actual.epoch.0 == expected.epoch.0 {
+    if actual.epoch == expected.epoch {
         return Refusal::none();
     }
     Refusal::new(13, expected.epoch.0, actual.epoch.0, 0)

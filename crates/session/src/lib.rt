@@ -7,7 +7,7 @@ pub mod next;
 
 ghost use Rattle.std.specs.Prelude.{◌≡◌};
 ghost use Rattle.record.specs.Types.{code_of};
-ghost use Rattle.session.specs.Checks.{identity_of, same, no_identity, identity_ok, holds, shown, record_identity, next_sequence};
+ghost use Rattle.session.specs.Checks.{identity_of, same, no_identity, identity_ok, holds, held, record_identity, next_sequence};
 
 use record::Record;
 use record::checks::all_zero;
@@ -15,17 +15,10 @@ use record::types::RecordType;
 use wire::{Epoch, Refusal, Sequence};
 
 // Identity of one epoch of a session.
-#[derive(Clone, Copy)]
+#[derive(Clone, Copy, Debug, PartialEq, Eq)]
 pub struct Identity {
     pub instance_id: [u8; 16],
     pub epoch: Epoch,
-}
-
-// An identity that may be missing. Where none is held, the bytes beside the mark mean nothing.
-#[derive(Clone, Copy)]
-pub struct OptionalIdentity {
-    pub present: bool,
-    pub identity: Identity,
 }
 
 // The sequence after another, or the refusal.
@@ -36,18 +29,11 @@ pub struct NextSequence {
 }
 
 // Whether two instances are the same.
+#[tactic(auto, unfolding(crate::specs::Checks::same))]
 pub fn same_instance(a: [u8; 16], b: [u8; 16]) -> bool
     ensures { result ≡ same a b }
 {
-    let mut equal = true;
-    let mut i: usize = 0;
-    while i < 16 {
-        if a[i] != b[i] {
-            equal = false;
-        }
-        i += 1;
-    }
-    equal
+    a == b
 }
 
 // No identity: what an answer without one holds.
@@ -61,43 +47,29 @@ pub fn no_identity() -> Identity
 }
 
 // Whether the fields are an identity: an instance not all zero with an epoch not 0.
+#[tactic(auto, using(crate::proofs::Cases::identity_zero, crate::proofs::Cases::identity_epoch))]
 pub fn is_identity(instance_id: [u8; 16], epoch: Epoch) -> bool
     ensures { result ≡ identity_ok instance_id epoch.0 }
 {
-    if all_zero(instance_id) {
-        return false;
-    }
-    epoch.0 != 0
+    !all_zero(instance_id) && epoch.0 != 0
 }
 
-impl OptionalIdentity {
-    // Whether an identity is held (01, 23).
-    pub fn is_held(self) -> bool
-        ensures { result ≡ holds self }
-    {
-        if !self.present {
-            return false;
-        }
-        let instance_id = self.identity.instance_id;
-        is_identity(instance_id, self.identity.epoch)
+// Whether an identity is held (01, 23).
+#[tactic(auto, unfolding(crate::specs::Checks::holds))]
+pub fn is_held(identity: Option<Identity>) -> bool
+    ensures { result ≡ holds identity }
+{
+    match identity {
+        Some(held) => is_identity(held.instance_id, held.epoch),
+        None => false,
     }
+}
 
-    // The identity where one is held, else none.
-    pub fn shown(self) -> OptionalIdentity
-        ensures { result ≡ shown self }
-    {
-        let identity = self.identity;
-        if self.present {
-            return OptionalIdentity {
-                present: true,
-                identity,
-            };
-        }
-        OptionalIdentity {
-            present: false,
-            identity: no_identity(),
-        }
-    }
+// The identity that is held, or no identity.
+pub fn held(identity: Option<Identity>) -> Identity
+    ensures { result ≡ held identity }
+{
+    identity.unwrap_or(no_identity())
 }
 
 // The identity that a record's fields make.
@@ -110,21 +82,15 @@ pub fn identity_in(record: Record) -> Identity
 }
 
 // The identity that a record carries.
-pub fn record_identity(record: Record) -> OptionalIdentity
+pub fn record_identity(record: Record) -> Option<Identity>
     ensures { result ≡ record_identity «record» }
 {
     let instance_id = record.instance_id;
     let epoch = record.epoch;
     if is_identity(instance_id, epoch) {
-        return OptionalIdentity {
-            present: true,
-            identity: Identity { instance_id, epoch },
-        };
+        return Some(Identity { instance_id, epoch });
     }
-    OptionalIdentity {
-        present: false,
-        identity: no_identity(),
-    }
+    None
 }
 
 // The sequence after another. The one after 2^64 - 1 does not exist.

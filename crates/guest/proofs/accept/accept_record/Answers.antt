@@ -2,14 +2,11 @@
 use Rattle.guest.proofs.Receiving.{accepting}
 use Rattle.guest.proofs.accept.accept_record.Goals as goal
 
-pub returns-then-code-eq3 : goal.returns-then-code-eq3
-returns-then-code-eq3 c = search accepting
+pub returns-then-not-is_taken : goal.returns-then-not-is_taken
+returns-then-not-is_taken c = search accepting
 
-pub returns-then-code-ne5 : goal.returns-then-code-ne5
-returns-then-code-ne5 c = search accepting
+pub returns-in-Reset : goal.returns-in-Reset
+returns-in-Reset c = search accepting
 
-pub returns-then-number-ne3 : goal.returns-then-number-ne3
-returns-then-number-ne3 c = search accepting
-
-pub returns : goal.returns
-returns c = search accepting
+pub returns-in_default : goal.returns-in_default
+returns-in_default c = search accepting

@@ -2,8 +2,8 @@
 use Rattle.guest.proofs.Checking.{resetting}
 use Rattle.guest.proofs.checks.check_reset.Goals as goal
 
-pub returns-then-not-carried : goal.returns-then-not-carried
-returns-then-not-carried c = search resetting
+pub returns-in_default : goal.returns-in_default
+returns-in_default c = search resetting
 
 pub returns-then-is_stale : goal.returns-then-is_stale
 returns-then-is_stale c = search resetting

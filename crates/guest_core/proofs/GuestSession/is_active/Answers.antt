@@ -2,8 +2,8 @@
 use Rattle.guest_core.proofs.Soundness.{activity}
 use Rattle.guest_core.proofs.GuestSession.is_active.Goals as goal
 
-pub returns-then-number-ne3 : goal.returns-then-number-ne3
-returns-then-number-ne3 c = search activity
+pub returns-then-ne : goal.returns-then-ne
+returns-then-ne c = search activity
 
 pub returns-then-self : goal.returns-then-self
 returns-then-self c = search activity

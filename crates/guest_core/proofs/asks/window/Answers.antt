@@ -5,8 +5,8 @@ use Rattle.guest_core.proofs.asks.window.Goals as goal
 pub returns-then-not-is_sound : goal.returns-then-not-is_sound
 returns-then-not-is_sound c = search asking
 
-pub returns-then-number-eq3 : goal.returns-then-number-eq3
-returns-then-number-eq3 c = search asking
+pub returns-then-eq : goal.returns-then-eq
+returns-then-eq c = search asking
 
 pub returns : goal.returns
 returns c = search asking

@@ -1,6 +1,5 @@
 -- `guest_core::send::credit` meets its contract. Each way it returns is a case of its rule: `crediting`, `credit_low`, `credit_ok_lem` of proofs/Sending. Assumes nothing.
-use Rattle.guest_core.proofs.Writing.{told_of}
-use Rattle.guest_core.proofs.Sending.{crediting, credit_low, credit_ok_lem}
+use Rattle.guest_core.proofs.Sending.{crediting, active_told, credit_low, credit_ok_lem}
 use Rattle.guest_core.proofs.send.credit.Goals as goal
 
 pub returns-then-refusal-ne0 : goal.returns-then-refusal-ne0
@@ -10,7 +9,7 @@ pub returns-then-not-is_covered : goal.returns-then-not-is_covered
 returns-then-not-is_covered c = search crediting
 
 pub credited-requires : goal.credited-requires
-credited-requires c = search (told_of, credit_low, credit_ok_lem)
+credited-requires c = search (active_told, credit_low, credit_ok_lem)
 
 pub returns : goal.returns
 returns c = search crediting

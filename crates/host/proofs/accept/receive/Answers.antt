@@ -17,7 +17,7 @@ pub keep_waiting-requires : goal.keep_waiting-requires
 keep_waiting-requires c = search (stays_low, sound_within)
 
 pub returns-then-stays_open : goal.returns-then-stays_open
-returns-then-stays_open c = receive_pushes _ _ _ _ _ c.is_sound.ensures (ap not c.if-not-is_sound.false) _ _ c.if-stage-lt-OUTER_MAX_PAYLOAD.false c.number.ensures c.is_open.ensures _ _ (ap not c.if-not-is_open.false) (open_taken _ _ _ _ (search sound_within) (search rules) (search stays_told) c.copy_at.ensures) c.keep_waiting.ensures
+returns-then-stays_open c = receive_pushes _ _ _ _ _ c.is_sound.ensures (ap not c.if-not-is_sound.false) _ c.if-stage-lt-OUTER_MAX_PAYLOAD.false c.is_open.ensures _ _ (ap not c.if-not-is_open.false) (open_taken _ _ _ _ (search sound_within) (search rules) (search stays_told) c.copy_at.ensures) c.keep_waiting.ensures
 
 pub returns : goal.returns
-returns c = receive_pushes _ _ _ _ _ c.is_sound.ensures (ap not c.if-not-is_sound.false) _ _ c.if-stage-lt-OUTER_MAX_PAYLOAD.false c.number.ensures c.is_open.ensures _ _ (ap not c.if-not-is_open.false) c.push-pushed.ensures c.after_push.ensures
+returns c = receive_pushes _ _ _ _ _ c.is_sound.ensures (ap not c.if-not-is_sound.false) _ c.if-stage-lt-OUTER_MAX_PAYLOAD.false c.is_open.ensures _ _ (ap not c.if-not-is_open.false) c.push-pushed.ensures c.after_push.ensures

@@ -5,8 +5,8 @@ use Rattle.host.proofs.calls.disconnect.Goals as goal
 pub returns-then-not-is_sound : goal.returns-then-not-is_sound
 returns-then-not-is_sound c = search disconnecting
 
-pub returns-then-number-ge3 : goal.returns-then-number-ge3
-returns-then-number-ge3 c = search disconnecting
+pub returns-then-not-is_begun : goal.returns-then-not-is_begun
+returns-then-not-is_begun c = search disconnecting
 
 pub returns : goal.returns
 returns c = search disconnecting

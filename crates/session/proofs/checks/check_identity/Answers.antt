@@ -5,8 +5,8 @@ use Rattle.session.proofs.checks.check_identity.Goals as goal
 pub returns-then-refusal-ne0 : goal.returns-then-refusal-ne0
 returns-then-refusal-ne0 c = search identity-checks
 
-pub returns-then-actual-expected : goal.returns-then-actual-expected
-returns-then-actual-expected c = search identity-checks
+pub returns-then-eq : goal.returns-then-eq
+returns-then-eq c = search identity-checks
 
 pub returns : goal.returns
 returns c = search identity-checks

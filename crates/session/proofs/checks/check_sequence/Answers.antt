@@ -2,8 +2,8 @@
 use Rattle.session.proofs.Cases.{sequencing}
 use Rattle.session.proofs.checks.check_sequence.Goals as goal
 
-pub returns-then-actual-expected : goal.returns-then-actual-expected
-returns-then-actual-expected c = search sequencing
+pub returns-then-eq : goal.returns-then-eq
+returns-then-eq c = search sequencing
 
 pub returns : goal.returns
 returns c = search sequencing

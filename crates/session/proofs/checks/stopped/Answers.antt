@@ -5,8 +5,8 @@ use Rattle.session.proofs.checks.stopped.Goals as goal
 pub returns-then-not-sound : goal.returns-then-not-sound
 returns-then-not-sound c = search stopping
 
-pub returns-then-held-state : goal.returns-then-held-state
-returns-then-held-state c = search stopping
+pub returns-then-not-in_state : goal.returns-then-not-in_state
+returns-then-not-in_state c = search stopping
 
 pub returns : goal.returns
 returns c = search stopping
