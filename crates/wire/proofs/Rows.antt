@@ -3,7 +3,9 @@ use mathlib.Core.Path.{◌≡◌, refl, sym, ap, ◌∙◌}
 use mathlib.Core.Bool.{Bool, true, false, ◌&&◌}
 use mathlib.Core.List.{List, [], ◌∷◌, ◌++◌}
 use borrow.Author.Tests.{eqb-false}
-use Rattle.wire.specs.Refusals.{pick, none, first, passes}
+use Rattle.wire.specs.Refusals.{pick, none, refusal_of, first, passes}
+use Rattle.wire.specs.declared.errors.Error.{Error}
+use Rattle.wire.specs.declared.errors.Error.TheVariants.{Magic, Version, «Type», Flags, Length, BootstrapIdentity, ErrorCode, ReceiveWindow, Credit, Unexpected, MissingIdentity, Instance, Epoch, StaleEpoch, Sequence, SequenceOverflow, Window, Uncovered, Truncated, InvalidState, ShortStage, ShortOutput, Unsound, OuterPayload, OuterHeader, OuterLength, AckPayload, CreditPayload, PayloadLength}
 use Rattle.wire.specs.declared.Refusal.{Refusal}
 
 -- every row's test holds
@@ -42,6 +44,10 @@ and_right false b e = cc
 pub picked : {A : Type 0} (P : A → Type 0) (t : Bool) {x y : A} → (t ≡ true → P x) → (t ≡ false → P y) → P (pick t x y)
 picked P true f g = f refl
 picked P false f g = g refl
+
+-- every error's refusal has a number
+pub refuses : (e : Error) → passes (refusal_of e) ≡ false
+refuses = elim [ Magic a ↦ refl | Version a ↦ refl | «Type» a ↦ refl | Flags a ↦ refl | Length a b ↦ refl | BootstrapIdentity a ↦ refl | ErrorCode a ↦ refl | ReceiveWindow a ↦ refl | Credit a ↦ refl | Unexpected a ↦ refl | MissingIdentity a ↦ refl | Instance a b ↦ refl | Epoch a b ↦ refl | StaleEpoch a b ↦ refl | Sequence a b ↦ refl | SequenceOverflow a ↦ refl | Window a b c ↦ refl | Uncovered a b ↦ refl | Truncated a ↦ refl | InvalidState ↦ refl | ShortStage ↦ refl | ShortOutput ↦ refl | Unsound ↦ refl | OuterPayload ↦ refl | OuterHeader ↦ refl | OuterLength ↦ refl | AckPayload ↦ refl | CreditPayload ↦ refl | PayloadLength ↦ refl ]
 
 -- ---- code that goes through rows
 -- a row's test fails, or holds and the rest decide
