@@ -68,7 +68,7 @@ pub fn encode_outer(
 
 // Whether the header is one of this version: its magic, version and flags.
 #[tactic(auto, unfolding(crate::specs::Outer::outer_ok))]
-fn is_outer(header: &[u8; 44]) -> bool
+pub fn is_outer(header: &[u8; 44]) -> bool
     ensures { result ≡ outer_ok header.now }
 {
     fields::magic(header) == u32_from_le_bytes(OUTER_MAGIC)

@@ -29,8 +29,8 @@ pub fn credit_ok(bytes: u32) -> bool
     bytes != 0 && bytes <= OUTER_MAX_RECEIVE_WINDOW
 }
 
-// The number of a four-byte ACK, CREDIT or ERROR payload.
-fn number(payload: &[u8]) -> Option<u32>
+// The number of a four-byte ACK, CREDIT or ERROR payload, none where it is not four bytes.
+pub fn number(payload: &[u8]) -> Option<u32>
     ensures { result ≡ number_in payload.now }
 {
     if let [a, b, c, d] = *payload {

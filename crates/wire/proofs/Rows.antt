@@ -2,8 +2,9 @@
 use mathlib.Core.Path.{◌≡◌, refl, sym, ap, ◌∙◌}
 use mathlib.Core.Bool.{Bool, true, false, ◌&&◌}
 use mathlib.Core.List.{List, [], ◌∷◌, ◌++◌}
+use Rattle.std.specs.Prelude.{ℕ, eqb, Result, Ok, Err, is_ok}
 use borrow.Author.Tests.{eqb-false}
-use Rattle.wire.specs.Refusals.{pick, none, refusal_of, first, passes}
+use Rattle.wire.specs.Refusals.{pick, none, refusal_of, verdict, first, passes}
 use Rattle.wire.specs.declared.errors.Error.{Error}
 use Rattle.wire.specs.declared.errors.Error.TheVariants.{Magic, Version, «Type», Flags, Length, BootstrapIdentity, ErrorCode, ReceiveWindow, Credit, Unexpected, MissingIdentity, Instance, Epoch, StaleEpoch, Sequence, SequenceOverflow, Window, Uncovered, Truncated, InvalidState, ShortStage, ShortOutput, Unsound, OuterPayload, OuterHeader, OuterLength, AckPayload, CreditPayload, PayloadLength}
 use Rattle.wire.specs.declared.Refusal.{Refusal}
@@ -73,6 +74,10 @@ rows_stop (row ∷ front) back x e n = go row.0 refl e (rows_stop front back x)
     go true q p k = k p n
     go false q p k = p
 
+-- the same of a check's answer: an error stops the operation, and else the rest decide
+pub error_stops : (front back : List (Bool × Refusal)) (e : Error) → refusal_of e ≡ first front → refusal_of e ≡ first (front ++ back)
+error_stops front back e q = rows_stop front back (refusal_of e) q (λ z. let k : true ≡ false = sym (ap (λ (n : ℕ). eqb n 0) z) ∙ refuses e in cc)
+
 pub rows_pass : (front back : List (Bool × Refusal)) (x y : Refusal) → Numbered front → x ≡ first front → x.number ≡ 0 → y ≡ first back → y ≡ first (front ++ back)
 unfolding first
 rows_pass [] back x y m e n q = q
@@ -81,3 +86,18 @@ rows_pass (row ∷ front) back x y m e n q = go row.0 refl e (λ p. rows_pass fr
     go : (t : Bool) → row.0 ≡ t → x ≡ pick t (first front) row.1 → (x ≡ first front → y ≡ first (front ++ back)) → y ≡ pick t (first (front ++ back)) row.1
     go true h p k = k p
     go false h p k = absurd (eqb-false row.1.number 0 m.0 (ap (λ (r : Refusal). r.number) (sym p) ∙ n))
+
+pub check_passes : (front back : List (Bool × Refusal)) (y : Refusal) → Numbered front → none ≡ first front → y ≡ first back → y ≡ first (front ++ back)
+check_passes front back y m e q = rows_pass front back none y m e refl q
+
+-- a check of one row
+pub row_refuses : (t b : Bool) (r : Refusal) → b ≡ t → b ≡ false → r ≡ first ((t, r) ∷ [])
+row_refuses t b r eb e = row_stops t r r [] (sym eb ∙ e) refl
+
+pub row_accepts : (t b : Bool) (r : Refusal) → b ≡ t → b ≡ true → none ≡ first ((t, r) ∷ [])
+row_accepts t b r eb e = row_passes t r none [] (sym eb ∙ e) (no_rows none refl)
+
+-- whether a check passes
+pub ok_passes : (x : Result (Unit {0}) Error) → is_ok x ≡ passes (verdict x)
+ok_passes (Ok u) = refl
+ok_passes (Err e) = sym (refuses e)
