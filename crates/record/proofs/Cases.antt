@@ -17,11 +17,11 @@ use Rattle.wire.specs.declared.Refusal.{Refusal}
 use Rattle.wire.specs.declared.errors.Error as Errors
 use lib.Pointwise.{pointwise}
 use Rattle.std.specs.Prelude.{replicate}
-use Rattle.wire.proofs.Rows.{picked, refuses, passed, no_rows, row_stops, row_passes, error_stops, check_passes}
+use Rattle.wire.proofs.Rows.{and_right, none_stops, picked, refuses, passed, no_rows, row_stops, row_passes, error_stops, check_passes}
 use Rattle.wire.proofs.Headers.{header_length}
 use Rattle.record.specs.Types.{code_of, type_at, type_ok, bootstrap, length_ok, error_at}
 use Rattle.record.proofs.TypesCases.{known_code, code_low, unknown_code, length_limit}
-use Rattle.record.specs.Record.{all_zero, length_row, bootstrap_row, payload_rows, payload_checks, rest_rows, header_checks, type_from, record_with, record_of}
+use Rattle.record.specs.Record.{header_rows, all_zero, length_row, bootstrap_row, payload_rows, payload_checks, rest_rows, header_checks, type_from, record_with, record_of}
 use Rattle.record.specs.Record.{record_rows, encode_rows, record_bytes, encode_record, value_in, error_in}
 use Rattle.record.specs.declared.types.RecordType.{RecordType}
 use Rattle.record.specs.declared.types.RecordType.TheVariants.{GuestAttach, HostAttach, Reset, Ack, Data, Wait, Ready, Error, Credit}
@@ -187,6 +187,11 @@ module _ (h : List ℕ) (b v : Bool) (eb : b ≡ outer_ok h) where
 
     pub data_length : (n : ℕ) (l : Bool) → v ≡ true → n ≡ length_of h → l ≡ length_ok 5 n → l ≡ eqb (type_of h) 5 && passes (header_checks h)
     data_length n l t en el = el ∙ ap (length_ok 5) en ∙ ap (λ (x : Bool). x && length_ok 5 (length_of h)) (sym t) ∙ tested
+
+pub data_passes : (h : List ℕ) (b : Bool) → b ≡ eqb (type_of h) 5 && passes (header_checks h) → b ≡ true → none ≡ header_checks h
+unfolding header_checks
+data_passes h b eb t =
+    none_stops (header_rows h) (passed (header_rows h) (refl, (refl, (refl, (refl, (refl, (refl, tt)))))) (and_right (eqb (type_of h) 5) (passes (first (header_rows h))) (sym eb ∙ t)))
 
 -- ---- the encoder
 module _ (t : ℕ) (i : List ℕ) (e s : ℕ) (p : List ℕ) where

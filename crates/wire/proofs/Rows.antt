@@ -33,6 +33,11 @@ unfolding first
 pass_all [] p = refl
 pass_all (row ∷ rows) p = rw p.0 (pass_all rows p.1)
 
+pub none_stops : (rows : List (Bool × Refusal)) → Passed rows → none ≡ first rows
+unfolding first
+none_stops [] p = refl
+none_stops (row ∷ rows) p = rw p.0 (none_stops rows p.1)
+
 pub and_left : (a b : Bool) → a && b ≡ true → a ≡ true
 and_left true b e = refl
 and_left false b e = e

@@ -1,6 +1,9 @@
 -- `record::header::check_header` meets its contract: 1, 2, 3, and what `check_rest` ensures for a type that is known. Assumes nothing.
-use Rattle.record.proofs.Cases.{head_magic, head_version, head_type, head_rest}
+use Rattle.record.proofs.Cases.{data_passes, head_magic, head_version, head_type, head_rest}
 use Rattle.record.proofs.header.check_header.Goals as goal
+
+pub returns-then-is_data : goal.returns-then-is_data
+returns-then-is_data c = data_passes _ _ c.is_data.ensures c.if-is_data.true
 
 pub returns-then-magic-u32_from_le_bytes : goal.returns-then-magic-u32_from_le_bytes
 returns-then-magic-u32_from_le_bytes c = head_magic c.args.header.now _ _ c.magic-magic.ensures c.u32_from_le_bytes.ensures c.if-magic-u32_from_le_bytes.true
