@@ -79,9 +79,12 @@ rows_stop (row ∷ front) back x e n = go row.0 refl e (rows_stop front back x)
     go true q p k = k p n
     go false q p k = p
 
+pub numbered : (e : Error) → (refusal_of e).number ≡ 0 → ⊥
+numbered e z = let k : true ≡ false = sym (ap (λ (n : ℕ). eqb n 0) z) ∙ refuses e in cc
+
 -- the same of a check's answer: an error stops the operation, and else the rest decide
 pub error_stops : (front back : List (Bool × Refusal)) (e : Error) → refusal_of e ≡ first front → refusal_of e ≡ first (front ++ back)
-error_stops front back e q = rows_stop front back (refusal_of e) q (λ z. let k : true ≡ false = sym (ap (λ (n : ℕ). eqb n 0) z) ∙ refuses e in cc)
+error_stops front back e q = rows_stop front back (refusal_of e) q (numbered e)
 
 pub rows_pass : (front back : List (Bool × Refusal)) (x y : Refusal) → Numbered front → x ≡ first front → x.number ≡ 0 → y ≡ first back → y ≡ first (front ++ back)
 unfolding first
