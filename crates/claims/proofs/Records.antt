@@ -17,7 +17,7 @@ use Rattle.outer.specs.Outer.{header_of, outer_ok, decode_outer_header}
 use Rattle.outer.specs.Outer as Outer
 use Rattle.wire.specs.declared.Refusal.{Refusal}
 use Rattle.outer.specs.declared.OuterHeader.{OuterHeader}
-use Rattle.outer.specs.declared.DecodedHeader.{DecodedHeader}
+use Rattle.outer.specs.Outer.{DecodedHeader}
 use Rattle.wire.proofs.Rows.{Passed, passed, pass_all, picked, and_left, and_right}
 use Rattle.wire.proofs.Headers.{header_length, header_back}
 use Rattle.outer.proofs.RoundTrips.{fields_of, header_decodes}

@@ -10,7 +10,7 @@ use Rattle.wire.specs.Refusals.{refusal, none, first}
 use Rattle.outer.specs.Outer.{window_ok, value_of, write, room_row}
 use Rattle.outer.specs.Outer as outer
 use Rattle.wire.specs.declared.Refusal.{Refusal}
-use Rattle.outer.specs.declared.Written.{Written}
+use Rattle.outer.specs.Outer.{Written}
 use Rattle.record.specs.Types.{length_ok}
 use Rattle.record.specs.Record.{all_zero, encode_rows, record_bytes, encode_record}
 use Rattle.parser.specs.Push.{buffered_of, counted}

@@ -11,7 +11,7 @@ use Rattle.wire.specs.Refusals.{refusal, first, passes}
 use Rattle.outer.specs.Outer.{value_of, write}
 use Rattle.outer.specs.Outer as outer
 use Rattle.wire.specs.declared.Refusal.{Refusal}
-use Rattle.outer.specs.declared.Written.{Written}
+use Rattle.outer.specs.Outer.{Written}
 use Rattle.wire.proofs.NumberLaws.{from_to, length_to}
 use Rattle.wire.proofs.Rows.{passed, rows_stop, rows_pass}
 use Rattle.outer.proofs.Writes.{write_stops, write_done}

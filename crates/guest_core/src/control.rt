@@ -10,11 +10,11 @@ ghost use Rattle.guest_core.specs.Calls as calls;
 
 use crate::answers::{Sent, not_sent, record_sent};
 use crate::{GuestSession, GuestState};
-use outer::Written;
 use record::codec::encode_record;
 use record::types::RecordType;
 use session::checks::stopped;
 use session::{Identity, held};
+use wire::errors::Error;
 use wire::{Epoch, Refusal, Sequence};
 
 // What `disconnect` answers.
@@ -25,8 +25,8 @@ pub struct Closed {
 }
 
 // Writes GUEST_ATTACH.
-fn write_attach(output: &mut [u8], at: usize) -> Written
-    ensures { outer.outcome result output.new ≡ encode_record 1 (replicate 16 0) 0 0 [] output.old at }
+fn write_attach(output: &mut [u8], at: usize) -> Result<usize, Error>
+    ensures { outer.outcome (outer.written result) output.new ≡ encode_record 1 (replicate 16 0) 0 0 [] output.old at }
 {
     let empty = [0u8; 0];
     encode_record(
@@ -42,8 +42,13 @@ fn write_attach(output: &mut [u8], at: usize) -> Written
 
 // Writes ACK with sequence 0.
 #[tactic(auto, using(wire::proofs::NumberLaws::written))]
-fn write_ack(identity: Identity, window: u32, output: &mut [u8], at: usize) -> Written
-    ensures { outer.outcome result output.new ≡ encode_record 4 identity.instance_id identity.epoch.0 0 (to_le 4 window) output.old at }
+fn write_ack(
+    identity: Identity,
+    window: u32,
+    output: &mut [u8],
+    at: usize,
+) -> Result<usize, Error>
+    ensures { outer.outcome (outer.written result) output.new ≡ encode_record 4 identity.instance_id identity.epoch.0 0 (to_le 4 window) output.old at }
 {
     let payload = window.to_le_bytes();
     let instance_id = identity.instance_id;
@@ -84,15 +89,14 @@ pub fn attach(session: GuestSession, output: &mut [u8], at: usize) -> Sent
     if refusal.number != 0 {
         return not_sent(session, refusal);
     }
-    let written = write_attach(output, at);
-    if written.refusal.number != 0 {
-        return not_sent(session, written.refusal);
+    match write_attach(output, at) {
+        Ok(next) => record_sent(
+            0,
+            next,
+            session.with_state(GuestState::Attaching, session.parser),
+        ),
+        Err(error) => not_sent(session, Refusal::from(error)),
     }
-    record_sent(
-        0,
-        written.next,
-        session.with_state(GuestState::Attaching, session.parser),
-    )
 }
 
 // Writes the acknowledgement of a reset with the window, and becomes Active.
@@ -103,11 +107,10 @@ pub fn acknowledge(session: GuestSession, window: u32, output: &mut [u8], at: us
     if refusal.number != 0 {
         return not_sent(session, refusal);
     }
-    let ack = write_ack(held(session.identity), window, output, at);
-    if ack.refusal.number != 0 {
-        return not_sent(session, ack.refusal);
+    match write_ack(held(session.identity), window, output, at) {
+        Ok(next) => record_sent(0, next, acknowledged(session, window)),
+        Err(error) => not_sent(session, Refusal::from(error)),
     }
-    record_sent(0, ack.next, acknowledged(session, window))
 }
 
 // Ends the session at the end of the stream.

@@ -12,7 +12,7 @@ use Rattle.wire.specs.Refusals.{pick, refusal, none, first, passes}
 use Rattle.outer.specs.Outer.{write, room_row}
 use Rattle.outer.specs.Outer as outer
 use Rattle.wire.specs.declared.Refusal.{Refusal}
-use Rattle.outer.specs.declared.Written.{Written}
+use Rattle.outer.specs.Outer.{Written}
 use Rattle.wire.proofs.Rows.{rows_stop, rows_pass}
 use Rattle.outer.proofs.Writes.{write_stops, write_done}
 use Rattle.record.specs.Types.{length_ok}

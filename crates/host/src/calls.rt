@@ -8,12 +8,12 @@ ghost use Rattle.host.specs.Calls.{outcome, not_sent, sent_record, ended};
 ghost use Rattle.host.specs.Calls as rule;
 
 use crate::{HostSession, HostState};
-use outer::Written;
 use record::codec::encode_record;
 use record::types::RecordType;
 use session::checks::stopped;
 use session::held;
 use session::next::encode_data;
+use wire::errors::Error;
 use wire::{Epoch, Refusal, Sequence};
 
 // What a call that writes answers: the bytes of data taken by `send`, else 0, and the position
@@ -58,8 +58,12 @@ fn record_sent(count: usize, next: usize, session: HostSession) -> Sent
 }
 
 // Writes HOST_ATTACH with the capability.
-fn write_attach(capability: [u8; 32], output: &mut [u8], at: usize) -> Written
-    ensures { outer.outcome result output.new ≡ encode_record 2 (replicate 16 0) 0 0 capability output.old at }
+fn write_attach(
+    capability: [u8; 32],
+    output: &mut [u8],
+    at: usize,
+) -> Result<usize, Error>
+    ensures { outer.outcome (outer.written result) output.new ≡ encode_record 2 (replicate 16 0) 0 0 capability output.old at }
 {
     encode_record(
         RecordType::HostAttach,
@@ -88,15 +92,14 @@ pub fn attach(session: HostSession, capability: [u8; 32], output: &mut [u8], at:
     if refusal.number != 0 {
         return not_sent(session, refusal);
     }
-    let written = write_attach(capability, output, at);
-    if written.refusal.number != 0 {
-        return not_sent(session, written.refusal);
+    match write_attach(capability, output, at) {
+        Ok(next) => record_sent(
+            0,
+            next,
+            session.with_state(HostState::Attaching, session.parser),
+        ),
+        Err(error) => not_sent(session, Refusal::from(error)),
     }
-    record_sent(
-        0,
-        written.next,
-        session.with_state(HostState::Attaching, session.parser),
-    )
 }
 
 // Writes a DATA record of at most the first 65,536 bytes, and says how many it took.

@@ -13,10 +13,10 @@ ghost use Rattle.listing.specs.Steps.{fresh, sound_listing, names_of, end_of};
 pub use crate::reach::LIMIT;
 use crate::reach::reached;
 use crate::settle::is_settled;
-use outer::Written;
 use parser::RecordParser;
 use text::lines::{LINE, put_ending, put_names};
 use wire::Refusal;
+use wire::errors::Error;
 
 // The record under way in its parser, its offset in the capture, and 01's open before it. Between
 // records the parser has no byte of a header, and of a refusal it has the number alone.
@@ -38,20 +38,13 @@ pub struct Listed {
 }
 
 // The line of names.
-pub fn names(output: &mut [u8]) -> Written
-    ensures { outer.outcome result output.new ≡ names_of output.old }
+pub fn names(output: &mut [u8]) -> Result<usize, Error>
+    ensures { outer.outcome (outer.written result) output.new ≡ names_of output.old }
 {
     if output.len() < LINE {
-        return Written {
-            refusal: Refusal::new(22, 0, 0, 0),
-            next: 0,
-        };
+        return Err(Error::ShortOutput);
     }
-    let next = put_names(output);
-    Written {
-        refusal: Refusal::none(),
-        next,
-    }
+    Ok(put_names(output))
 }
 
 impl Listing {
@@ -82,31 +75,21 @@ impl Listing {
     }
 
     // The last line.
-    pub fn end(self, output: &mut [u8]) -> Written
-        ensures { outer.outcome result output.new ≡ end_of self output.old }
+    pub fn end(self, output: &mut [u8]) -> Result<usize, Error>
+        ensures { outer.outcome (outer.written result) output.new ≡ end_of self output.old }
     {
         if !self.is_sound() {
-            return Written {
-                refusal: Refusal::new(23, 0, 0, 0),
-                next: 0,
-            };
+            return Err(Error::Unsound);
         }
         if output.len() < LINE {
-            return Written {
-                refusal: Refusal::new(22, 0, 0, 0),
-                next: 0,
-            };
+            return Err(Error::ShortOutput);
         }
         let buffered = self.parser.buffered();
-        let next = put_ending(
+        Ok(put_ending(
             output,
             self.offset,
             self.parser.error.number,
             buffered.count as u64,
-        );
-        Written {
-            refusal: Refusal::none(),
-            next,
-        }
+        ))
     }
 }

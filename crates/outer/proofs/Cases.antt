@@ -4,49 +4,43 @@ use mathlib.Core.Path.{◌≡◌, sym, ap, ◌∙◌}
 use mathlib.Core.Bool.{Bool, true, false, not}
 use mathlib.Core.List.{List, ◌++◌}
 use native.Mathlib.Omega.{arith}
+use Rattle.std.specs.Prelude.{Ok, Err}
 use lib.ListN.{length, length-append}
 use lib.Dec.{eqb, leb}
 use borrow.Author.Tests.{le-leb, lt-leb, eq-eqb, ne_eqb, not-true, not-false}
 use Rattle.wire.specs.Bytes.{from_le, overlay, copied}
 use Rattle.wire.specs.Refusals.{pick, refusal, none, first}
 use Rattle.wire.specs.Header.{magic, magic_of, version_of, type_of, flags_of, instance_of, epoch_of, sequence_of, length_of, header_bytes}
-use Rattle.outer.specs.Outer.{outcome, not_written, write, put_record, encode_outer}
-use Rattle.outer.specs.Outer.{header_of, outer_ok, refused_header, decode_outer_header}
+use Rattle.outer.specs.Outer.{Written, written, outcome, write, put_record, encode_outer}
+use Rattle.outer.specs.Outer.{header_of, outer_ok, decoded_header, decode_outer_header}
 use Rattle.wire.specs.declared.Epoch.{Epoch}
 use Rattle.wire.specs.declared.Sequence.{Sequence}
-use Rattle.wire.specs.declared.Refusal.{Refusal}
 use Rattle.outer.specs.declared.OuterHeader.{OuterHeader}
-use Rattle.outer.specs.declared.Written.{Written}
-use Rattle.outer.specs.declared.DecodedHeader.{DecodedHeader}
+use Rattle.wire.specs.declared.errors.Error.TheVariants as Error
 use Rattle.std.specs.Int.{w32, from_le_bytes}
 use Rattle.wire.proofs.Headers.{header_length, magic_read}
 use Rattle.wire.proofs.Overlays.{copied_fits, overlay_next, length_overlay}
 
 -- ---- a record written at a position
-module _ (header payload o : List ℕ) (at : ℕ) (size : length header ≡ 44) where
-  no_room : (r : Written) → r ≡ not_written 22 → length o < at + (44 + length payload) → outcome r o ≡ put_record header payload o at
+module _ (header payload o : List ℕ) (at room : ℕ) (size : length header ≡ 44) (left : room ≡ length o - at) where
+  no_room : length o < at + (44 + length payload) → outcome (written (Err Error.ShortOutput)) o ≡ put_record header payload o at
   unfolding put_record write first
-  no_room r e h =
+  no_room h =
       let k : length o < at + length (header ++ payload) = simp length-append (omega arith) in
-      simp (lt-leb (at + length (header ++ payload)) (length o) k) (ap (λ (x : Written). outcome x o) e)
+      simp (lt-leb (at + length (header ++ payload)) (length o) k)
 
-  pub put_past : (r : Written) → r ≡ not_written 22 → length o < at → outcome r o ≡ put_record header payload o at
-  put_past r e h = no_room r e (omega arith)
+  pub put_short : room < 44 → outcome (written (Err Error.ShortOutput)) o ≡ put_record header payload o at
+  put_short h = no_room (omega (arith, left))
 
-  pub put_short : (r : Written) → r ≡ not_written 22 → at ≤ length o → length o - at < 44 → outcome r o ≡ put_record header payload o at
-  put_short r e h k = no_room r e (omega arith)
+  pub put_shorter : 44 ≤ room → room - 44 < length payload → outcome (written (Err Error.ShortOutput)) o ≡ put_record header payload o at
+  put_shorter h k = no_room (omega (arith, left))
 
-  pub put_shorter : (r : Written) → r ≡ not_written 22 → at ≤ length o → 44 ≤ length o - at → length o - at - 44 < length payload
-      → outcome r o ≡ put_record header payload o at
-  put_shorter r e h k l = no_room r e (omega arith)
-
-  pub put_done : (x : Refusal) (o1 o2 : List ℕ) → x ≡ none → at ≤ length o → 44 ≤ length o - at → length payload ≤ length o - at - 44
-      → o1 ≡ copied o at header → o2 ≡ copied o1 (at + 44) payload
-      → outcome (record { refusal = x; next = at + 44 + length payload }) o2 ≡ put_record header payload o at
+  pub put_done : (o1 o2 : List ℕ) → 44 ≤ room → length payload ≤ room - 44 → o1 ≡ copied o at header → o2 ≡ copied o1 (at + 44) payload
+      → outcome (written (Ok (at + 44 + length payload))) o2 ≡ put_record header payload o at
   unfolding put_record write first
-  put_done x o1 o2 ex h k l e1 e2 =
+  put_done o1 o2 h k e1 e2 =
       let n : length (header ++ payload) ≡ 44 + length payload = length-append header payload ∙ omega arith in
-      let room : at + length (header ++ payload) ≤ length o = omega arith in
+      let fits : at + length (header ++ payload) ≤ length o = omega (arith, left) in
       let f1 : o1 ≡ overlay o at header = e1 ∙ copied_fits o at header (omega arith) in
       let s1 : length o1 ≡ length o = ap length f1 ∙ length_overlay o at header (omega arith) in
       let f2 : o2 ≡ overlay o at (header ++ payload) =
@@ -54,19 +48,16 @@ module _ (header payload o : List ℕ) (at : ℕ) (size : length header ≡ 44) 
       ∙ copied_fits o1 (at + 44) payload (omega arith)
       ∙ ap (λ (d : List ℕ). overlay d (at + 44) payload) f1
       ∙ ap (λ (j : ℕ). overlay (overlay o at header) (at + j) payload) (sym size)
-      ∙ overlay_next o at header payload room
+      ∙ overlay_next o at header payload fits
       in
       let next : at + 44 + length payload ≡ at + length (header ++ payload) = omega arith in
-      simp (le-leb (at + length (header ++ payload)) (length o) room)
-      (λ i. outcome (record { refusal = ex i; next = next i }) (f2 i))
-
-pub ruleset putting = (put_past, put_short, put_shorter, put_done)
+      simp (le-leb (at + length (header ++ payload)) (length o) fits) (λ i. outcome (written (Ok (next i))) (f2 i))
 
 -- ---- encode_outer
 module _ (t : ℕ) (i : List ℕ) (e s : ℕ) (payload o : List ℕ) (at : ℕ) where
-  pub outer_24 : (r : Written) → 65536 < length payload → r ≡ not_written 24 → outcome r o ≡ encode_outer t i e s payload o at
+  pub outer_24 : 65536 < length payload → outcome (written (Err Error.OuterPayload)) o ≡ encode_outer t i e s payload o at
   unfolding encode_outer write first
-  outer_24 r h er = simp (lt-leb (length payload) 65536 h) (ap (λ (x : Written). outcome x o) er)
+  outer_24 h = simp (lt-leb (length payload) 65536 h)
 
   pub outer_put : (r : Written) (header o2 : List ℕ) → length payload ≤ 65536 → length i ≡ 16 → header ≡ header_bytes t i e s (length payload)
       → outcome r o2 ≡ put_record header payload o at → outcome r o2 ≡ encode_outer t i e s payload o at
@@ -108,25 +99,25 @@ header_read h t i e s n et ei ee es en =
     λ j. record { record_type = et j; instance_id = ei j; epoch = record { 0 = ee j }; sequence = record { 0 = es j }; length = en j }
 
 module _ (h : List ℕ) (b : Bool) (eb : b ≡ outer_ok h) where
-  pub decode_25 : (r : DecodedHeader) → not b ≡ true → r ≡ refused_header 25 → r ≡ decode_outer_header h
+  pub decode_25 : not b ≡ true → decoded_header (Err Error.OuterHeader) ≡ decode_outer_header h
   unfolding decode_outer_header first
-  decode_25 r n er = simp (decode_outer_header, ← eb, not-true b n) er
+  decode_25 n = simp (decode_outer_header, ← eb, not-true b n)
 
   module _ (d : OuterHeader) (n : not b ≡ false) (ed : d ≡ header_of h) where
     size : d.length ≡ length_of h
     unfolding header_of
     size = ap (λ (x : OuterHeader). x.length) ed
 
-    pub decode_26 : (r : DecodedHeader) → 65536 < d.length → r ≡ refused_header 26 → r ≡ decode_outer_header h
+    pub decode_26 : 65536 < d.length → decoded_header (Err Error.OuterLength) ≡ decode_outer_header h
     unfolding decode_outer_header first
-    decode_26 r l er =
+    decode_26 l =
         let k : 65536 < length_of h = omega (arith, size) in
-        simp (decode_outer_header, ← eb, not-false b n, lt-leb (length_of h) 65536 k) er
+        simp (decode_outer_header, ← eb, not-false b n, lt-leb (length_of h) 65536 k)
 
-    pub decode_done : (x : Refusal) → d.length ≤ 65536 → x ≡ none → record { refusal = x; header = d } ≡ decode_outer_header h
+    pub decode_done : d.length ≤ 65536 → decoded_header (Ok d) ≡ decode_outer_header h
     unfolding decode_outer_header first
-    decode_done x l ex =
+    decode_done l =
         let k : length_of h ≤ 65536 = omega (arith, size) in
-        simp (decode_outer_header, ← eb, not-false b n, le-leb (length_of h) 65536 k) (λ j. record { refusal = ex j; header = ed j })
+        simp (decode_outer_header, ← eb, not-false b n, le-leb (length_of h) 65536 k) (ap (λ (x : OuterHeader). decoded_header (Ok x)) ed)
 
 pub ruleset decoding-header = (decode_25, decode_26, decode_done)

@@ -15,7 +15,7 @@ use Rattle.wire.specs.Header.{magic, magic_of, version_of, type_of, flags_of, in
 use Rattle.outer.specs.Outer.{Outcome, write, encode_outer, outer_rows, header_rows, header_of, outer_ok, decode_outer_header}
 use Rattle.wire.specs.declared.Refusal.{Refusal}
 use Rattle.outer.specs.declared.OuterHeader.{OuterHeader}
-use Rattle.outer.specs.declared.DecodedHeader.{DecodedHeader}
+use Rattle.outer.specs.Outer.{DecodedHeader}
 use Rattle.wire.proofs.NumberLaws.{at_whole, from_to}
 use Rattle.wire.proofs.Headers.{header_length, header_back}
 use Rattle.wire.proofs.Overlays.{part_overlay}

@@ -9,7 +9,7 @@ use Rattle.wire.specs.Bytes.{overlay}
 use Rattle.wire.specs.Refusals.{passes}
 use Rattle.outer.specs.Outer.{Outcome, outcome, write}
 use Rattle.wire.specs.declared.Refusal.{Refusal}
-use Rattle.outer.specs.declared.Written.{Written}
+use Rattle.outer.specs.Outer.{Written}
 use Rattle.wire.proofs.Rows.{picked}
 
 module _ (w : Written) (r : Refusal) (bytes o o2 : List ℕ) (at : ℕ) (e : outcome w o2 ≡ write r bytes o at) where

@@ -1,12 +1,11 @@
 -- The rules of the plain layer (01, "Plain layer"): what each operation answers and writes. Refusals 22 and 24 to 29 carry no figures.
-use Rattle.std.specs.Prelude.{ℕ, ◌+◌, Bool, ◌&&◌, List, [], ◌∷◌, ◌++◌, length, replicate, eqb, leb}
+use Rattle.std.specs.Prelude.{ℕ, ◌+◌, Bool, ◌&&◌, List, [], ◌∷◌, ◌++◌, length, replicate, eqb, leb, Option, Some, None, Result, Ok, Err}
 use Rattle.wire.specs.Bytes.{from_le, overlay}
-use Rattle.wire.specs.Refusals.{pick, refusal, none, first, passes}
+use Rattle.wire.specs.Refusals.{pick, refusal, none, refusal_of, first, passes}
 use Rattle.wire.specs.Header.{magic, magic_of, version_of, type_of, flags_of, instance_of, epoch_of, sequence_of, length_of, header_bytes}
 use Rattle.wire.specs.declared.Refusal.{Refusal}
 use Rattle.outer.specs.declared.OuterHeader.{OuterHeader}
-use Rattle.outer.specs.declared.Written.{Written}
-use Rattle.outer.specs.declared.DecodedHeader.{DecodedHeader}
+use Rattle.wire.specs.declared.errors.Error.{Error}
 
 -- ---- limits
 -- the largest payload
@@ -28,6 +27,15 @@ unfoldable pub credit_ok : ℕ → Bool
 credit_ok n = leb 1 n && leb n max_window
 
 -- ---- records written at a position
+-- what an operation that writes answers: what is refused, and the position after the record
+pub record Written : Type 0 where
+  pub refusal : Refusal
+  pub next : ℕ
+
+abbrev pub written : Result ℕ Error → Written
+written (Ok next) = record { refusal = none; next = next }
+written (Err e) = record { refusal = refusal_of e; next = 0 }
+
 -- what an operation that writes answers, with the output as it leaves it
 pub record Outcome : Type 0 where
   pub answer : Written
@@ -35,9 +43,6 @@ pub record Outcome : Type 0 where
 
 abbrev pub outcome : Written → List ℕ → Outcome
 outcome r o = record { answer = r; output = o }
-
-abbrev pub not_written : ℕ → Written
-not_written number = record { refusal = refusal number 0 0 0; next = 0 }
 
 -- 22: the position is past the end, or fewer bytes are left than the record has
 abbrev pub room_row : List ℕ → ℕ → ℕ → (Bool × Refusal)
@@ -63,6 +68,11 @@ encode_outer type instance epoch sequence payload o at =
     write (first (outer_rows payload o at)) (header_bytes type instance epoch sequence (length payload) ++ payload) o at
 
 -- ---- a header read
+-- what decoding a header answers: what is refused, and the header
+pub record DecodedHeader : Type 0 where
+  pub refusal : Refusal
+  pub header : OuterHeader
+
 -- no header
 abbrev pub no_header : OuterHeader
 no_header =
@@ -73,6 +83,10 @@ no_header =
       sequence = record { 0 = 0 };
       length = 0;
     }
+
+abbrev pub decoded_header : Result OuterHeader Error → DecodedHeader
+decoded_header (Ok header) = record { refusal = none; header = header }
+decoded_header (Err e) = record { refusal = refusal_of e; header = no_header }
 
 -- the fields of a header's bytes
 unfoldable pub header_of : List ℕ → OuterHeader
@@ -89,9 +103,6 @@ header_of h =
 unfoldable pub outer_ok : List ℕ → Bool
 outer_ok h = eqb (magic_of h) (from_le magic) && (eqb (version_of h) 1 && eqb (flags_of h) 0)
 
-abbrev pub refused_header : ℕ → DecodedHeader
-refused_header number = record { refusal = refusal number 0 0 0; header = no_header }
-
 -- 25 magic, version or flags; then 26 length
 abbrev pub header_rows : List ℕ → List (Bool × Refusal)
 header_rows h = (outer_ok h, refusal 25 0 0 0) ∷ (leb (length_of h) max_payload, refusal 26 0 0 0) ∷ []
@@ -102,6 +113,9 @@ decode_outer_header h =
     pick (passes r) (record { refusal = none; header = header_of h }) (record { refusal = r; header = no_header })
 
 -- ---- payloads of four bytes
--- the number of four bytes; 0 where they are not four
+-- the number of four bytes; none where they are not four, and 0 as the value then
+unfoldable pub number_in : List ℕ → Option ℕ
+number_in p = pick (eqb (length p) 4) (Some (from_le p)) None
+
 unfoldable pub value_of : List ℕ → ℕ
 value_of p = pick (eqb (length p) 4) (from_le p) 0

@@ -1,11 +1,28 @@
 -- The ack and credit payload pairs of the plain layer (01, "Plain layer"): 29, then 27 or 28. Their limits and a payload's number are in `Outer`.
-use Rattle.std.specs.Prelude.{ℕ, Bool, List, [], ◌∷◌, length, replicate, eqb}
+use Rattle.std.specs.Prelude.{ℕ, Bool, List, [], ◌∷◌, length, replicate, eqb, Result, Ok, Err}
 use Rattle.wire.specs.Bytes.{from_le, to_le}
-use Rattle.wire.specs.Refusals.{pick, refusal, none, first, passes}
+use Rattle.wire.specs.Refusals.{pick, refusal, none, refusal_of, first, passes}
 use Rattle.wire.specs.declared.Refusal.{Refusal}
 use Rattle.outer.specs.Outer.{window_ok, credit_ok}
-use Rattle.outer.specs.declared.payloads.EncodedPayload.{EncodedPayload}
-use Rattle.outer.specs.declared.payloads.DecodedPayload.{DecodedPayload}
+use Rattle.wire.specs.declared.errors.Error.{Error}
+
+-- what encoding a payload answers: what is refused, and the four bytes
+pub record EncodedPayload : Type 0 where
+  pub refusal : Refusal
+  pub payload : List ℕ
+
+abbrev pub encoded : Result (List ℕ) Error → EncodedPayload
+encoded (Ok payload) = record { refusal = none; payload = payload }
+encoded (Err e) = record { refusal = refusal_of e; payload = replicate 4 0 }
+
+-- what decoding a payload answers: what is refused, and the value
+pub record DecodedPayload : Type 0 where
+  pub refusal : Refusal
+  pub value : ℕ
+
+abbrev pub decoded : Result ℕ Error → DecodedPayload
+decoded (Ok value) = record { refusal = none; value = value }
+decoded (Err e) = record { refusal = refusal_of e; value = 0 }
 
 abbrev pub accepted_encoding : ℕ → EncodedPayload
 accepted_encoding v = record { refusal = none; payload = to_le 4 v }

@@ -11,15 +11,16 @@ use lib.ListN.{length, take, drop, length-take}
 use lib.Dec.{eqb, leb, ltb}
 use borrow.Author.Tests.{lt-ltb, le-ltb, le-leb, lt-leb, eq-eqb, ne_eqb, eqb-true, ltb-true, not-true, not-false}
 use Rattle.wire.specs.Bytes.{overlay, copied}
-use Rattle.wire.specs.Refusals.{pick, refusal, none, first, passes}
+use Rattle.wire.specs.Refusals.{refusal_of, pick, refusal, none, first, passes}
 use Rattle.wire.specs.Header.{type_of, length_of}
 use Rattle.wire.specs.declared.Refusal.{Refusal}
+use Rattle.wire.specs.declared.errors.Error.{Error}
 use Rattle.wire.proofs.Overlays.{copied_fits, take_overlay}
-use Rattle.wire.proofs.Rows.{and_left, and_right, passed, pass_all, row_stops, row_passes}
+use Rattle.wire.proofs.Rows.{refuses, and_left, and_right, passed, pass_all, row_stops, row_passes}
 use Rattle.record.specs.Types.{code_of, type_at, type_ok}
 use Rattle.record.specs.Record.{header_rows, header_checks, payload_checks, record_with, record_of, type_from, no_record}
-use Rattle.record.specs.declared.types.TypeLookup.{TypeLookup}
-use Rattle.record.specs.declared.types.TypeLookup.TheVariants.{Known, Unknown}
+use Rattle.record.specs.declared.types.RecordType.{RecordType}
+use Rattle.std.specs.Prelude.{Option, Some, None}
 use Rattle.record.specs.declared.Record.{Record}
 use Rattle.record.proofs.TypesCases.{known_code, unknown_code, length_limit}
 use Rattle.parser.specs.declared.RecordParser.{RecordParser}
@@ -155,28 +156,27 @@ module _ (h : List ℕ) (ok : passes (header_checks h) ≡ true) where
       p : type_ok (type_of h) ≡ true
       p = (passed (header_rows h) (refl, (refl, (refl, (refl, (refl, (refl, tt)))))) checks_told).1.1.0
 
-      go : (l : TypeLookup) → type_at (type_of h) ≡ l → code_of (type_from l) ≡ type_of h
-      go (Known t) e = known_code (type_of h) t e
-      go Unknown e = cc (unknown_code (type_of h) e, p)
+      go : (l : Option RecordType) → type_at (type_of h) ≡ l → code_of (type_from l) ≡ type_of h
+      go (Some t) e = known_code (type_of h) t e
+      go None e = cc (unknown_code (type_of h) e, p)
 
   pub length_low : length_of h ≤ 65536
   length_low = length_limit (type_of h) (length_of h) (passed (header_rows h) (refl, (refl, (refl, (refl, (refl, (refl, tt)))))) checks_told).1.1.1.1.0
 
 -- ---- the end of a payload
-module _ (h payload : List ℕ) (t : ℕ) (at : Place) (r : Record) (x : Refusal) (ok : passes (header_checks h) ≡ true) (er : r ≡ record_of h)
-    (ex : x ≡ payload_checks (code_of r.record_type) payload) where
-  checked_by : x ≡ payload_checks (type_of h) payload
-  checked_by = ex ∙ ap (λ (k : Record). payload_checks (code_of k.record_type) payload) er ∙ ap (λ (k : ℕ). payload_checks k payload) (type_code h ok)
+module _ (h payload : List ℕ) (t : ℕ) (at : Place) (r : Record) (ok : passes (header_checks h) ≡ true) (er : r ≡ record_of h) where
+  checked_by : (x : Refusal) → x ≡ payload_checks (code_of r.record_type) payload → x ≡ payload_checks (type_of h) payload
+  checked_by x ex = ex ∙ ap (λ (k : Record). payload_checks (code_of k.record_type) payload) er ∙ ap (λ (k : ℕ). payload_checks k payload) (type_code h ok)
 
-  pub finish_fails : (u : Pushed) → (x.number ≡ 0 → ⊥) → u ≡ failed h x → u ≡ (finish h payload t at).answer
+  pub finish_fails : (e : Error) (x : Refusal) (u : Pushed) → refusal_of e ≡ payload_checks (code_of r.record_type) payload → x ≡ refusal_of e → u ≡ failed h x
+      → u ≡ (finish h payload t at).answer
   unfolding finish
-  finish_fails u n e = simp (finish, ← checked_by, ne_eqb x.number 0 n) e
+  finish_fails e x u q ex eu =
+      simp (finish, ← checked_by (refusal_of e) q, refuses e) (eu ∙ ap (failed h) ex)
 
-  pub finish_completes : (u : Pushed) → x.number ≡ 0 → u ≡ completed h t at → u ≡ (finish h payload t at).answer
+  pub finish_completes : (u : Pushed) → none ≡ payload_checks (code_of r.record_type) payload → u ≡ completed h t at → u ≡ (finish h payload t at).answer
   unfolding finish
-  finish_completes u n e = simp (finish, ← checked_by, eq-eqb x.number 0 n) e
-
-pub ruleset finishing = (finish_fails, finish_completes)
+  finish_completes u q e = simp (finish, ← checked_by none q) e
 
 -- ---- the payload step
 module _ (h : List ℕ) (size k : ℕ) (rest : List ℕ) (from : ℕ) (stage : List ℕ) (n : ℕ) (u : Pushed) (ez : size ≡ length_of h) (en : n ≡ min (size - k) (length rest)) where
@@ -275,8 +275,8 @@ payload_stage place size piece stage l e q = rw e q
 pub ruleset paying = (payload_piece, payload_stage)
 
 -- ---- the header step
-pub header_passes : (h : List ℕ) (b : Bool) → b ≡ passes (header_checks h) → not b ≡ false → passes (header_checks h) ≡ true
-header_passes h b eb n = sym eb ∙ not-false b n
+pub header_passes : (h : List ℕ) → none ≡ header_checks h → passes (header_checks h) ≡ true
+header_passes h q = ap passes (sym q)
 
 -- what follows byte 44 where k payload bytes have come
 abbrev after44 : List ℕ → ℕ → List ℕ → ℕ → List ℕ → Outcome
@@ -285,14 +285,12 @@ after44 h k rest from stage =
     (outcome (push_body h k (take k stage) rest from).answer (body_stage h k rest stage))
     (outcome (failed h (header_checks h)) stage)
 
-module _ (h : List ℕ) (k : ℕ) (rest : List ℕ) (from : ℕ) (stage : List ℕ) (b : Bool) (u : Pushed) (eb : b ≡ passes (header_checks h)) where
-  pub checked_fails : (x : Refusal) → not b ≡ true → x ≡ header_checks h → u ≡ failed h x → outcome u stage ≡ after44 h k rest from stage
-  checked_fails x n ex e = simp (← eb, not-true b n) (ap (λ (w : Pushed). outcome w stage) (e ∙ ap (failed h) ex))
+module _ (h : List ℕ) (k : ℕ) (rest : List ℕ) (from : ℕ) (stage : List ℕ) (u : Pushed) where
+  pub checked_fails : (e : Error) (x : Refusal) → refusal_of e ≡ header_checks h → x ≡ refusal_of e → u ≡ failed h x → outcome u stage ≡ after44 h k rest from stage
+  checked_fails e x q ex eu = simp (← q, refuses e) (ap (λ (w : Pushed). outcome w stage) (eu ∙ ap (failed h) ex))
 
-  pub checked_passes : (st : List ℕ) → not b ≡ false → outcome u st ≡ outcome (push_body h k (take k stage) rest from).answer (body_stage h k rest stage) → outcome u st ≡ after44 h k rest from stage
-  checked_passes st n e = simp (← eb, not-false b n) e
-
-pub ruleset checking = (checked_fails, checked_passes)
+  pub checked_passes : (st : List ℕ) → none ≡ header_checks h → outcome u st ≡ outcome (push_body h k (take k stage) rest from).answer (body_stage h k rest stage) → outcome u st ≡ after44 h k rest from stage
+  checked_passes st q e = simp (← q) e
 
 -- a header with the bytes of a piece that are its own
 module _ (head piece : List ℕ) (had n : ℕ) (b : List ℕ) (size : length head ≡ 44) (low : had ≤ 44) (en : n ≡ min (44 - had) (length piece))

@@ -11,7 +11,7 @@ use crate::{Place, Pushed, RecordParser};
 use outer::{OUTER_HEADER_LEN, OUTER_MAX_PAYLOAD};
 use record::checks::check_payload;
 use record::codec::record_of;
-use record::header::{check_header, header_ok};
+use record::header::check_header;
 use record::no_record;
 use wire::copying::copy_at;
 use wire::parts::{filled, part};
@@ -93,13 +93,10 @@ fn finished(header: [u8; 44], payload: &[u8], consumed: usize, place: Place) -> 
     requires { passes (header_checks header) ≡ true }
     ensures { result ≡ (finish header payload.now consumed place).answer }
 {
-    let read = record_of(&header);
-    let record_type = read.record_type;
-    let refusal = check_payload(record_type, payload);
-    if refusal.number != 0 {
-        return fail(header, refusal);
+    match check_payload(record_of(&header).record_type, payload) {
+        Ok(()) => complete(header, consumed, place),
+        Err(error) => fail(header, Refusal::from(error)),
     }
-    complete(header, consumed, place)
 }
 
 // Stores the last bytes of a payload, unless they are its first too.
@@ -164,10 +161,10 @@ fn checked(header: [u8; 44], before: usize, rest: &[u8], from: usize, stage: &mu
     requires { (before ≤ length_of header) × (65536 ≤ length stage.old) × (from + length rest.now < 2 ^ 64) }
     ensures { outcome result stage.new ≡ pick (passes (header_checks header)) (outcome (push_body header before (take before stage.old) rest.now from).answer (body_stage header before rest.now stage.old)) (outcome (failed header (header_checks header)) stage.old) }
 {
-    if !header_ok(&header) {
-        return fail(header, check_header(&header));
+    match check_header(&header) {
+        Ok(()) => payload_step(header, before, rest, from, stage),
+        Err(error) => fail(header, Refusal::from(error)),
     }
-    payload_step(header, before, rest, from, stage)
 }
 
 // The header step.

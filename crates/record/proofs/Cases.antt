@@ -1,86 +1,67 @@
 -- The cases of the records' rules, a law for each `return` of the code: what was tested there, and what is answered. Assumes nothing.
 use Prim.Native.Nat.{ℕ, ◌+◌, ◌≤◌}
 use mathlib.Core.Path.{◌≡◌, refl, sym, ap, ◌∙◌}
-use mathlib.Core.Bool.{Bool, true, false, not, ◌&&◌, ◌||◌}
+use mathlib.Core.Bool.{Bool, true, false, not, ◌&&◌, ◌||◌, and-false}
 use mathlib.Core.List.{List, [], ◌∷◌, ◌++◌}
-use native.Mathlib.Omega.{arith}
+use Rattle.std.specs.Prelude.{Option, Some, None, Err}
 use lib.ListN.{length, length-append}
 use lib.Dec.{eqb}
-use borrow.Author.Tests.{eq-eqb, ne_eqb, eqb-true, not-true, not-false}
+use borrow.Author.Tests.{eq-eqb, ne_eqb, eqb-true}
 use Rattle.wire.specs.Bytes.{from_le}
-use Rattle.wire.specs.Refusals.{refusal, none, first, passes}
+use Rattle.wire.specs.Refusals.{pick, refusal, none, refusal_of, first, passes}
 use Rattle.wire.specs.Header.{magic, magic_of, version_of, type_of, flags_of, instance_of, epoch_of, sequence_of, length_of, header_bytes}
-use Rattle.outer.specs.Outer.{window_ok, credit_ok, value_of, outcome, write, room_row, put_record}
+use Rattle.outer.specs.Outer.{window_ok, credit_ok, outer_ok, value_of, Written, written, outcome, write, room_row, put_record}
 use Rattle.wire.specs.declared.Epoch.{Epoch}
 use Rattle.wire.specs.declared.Sequence.{Sequence}
 use Rattle.wire.specs.declared.Refusal.{Refusal}
-use Rattle.outer.specs.declared.Written.{Written}
-use Rattle.wire.proofs.Rows.{Passed, picked, passed, pass_all, and_right, no_rows, row_stops, row_passes, rows_stop, rows_pass}
+use Rattle.wire.specs.declared.errors.Error as Errors
+use lib.Pointwise.{pointwise}
+use Rattle.std.specs.Prelude.{replicate}
+use Rattle.wire.proofs.Rows.{and_right, none_stops, picked, refuses, passed, no_rows, row_stops, row_passes, error_stops, check_passes}
 use Rattle.std.specs.Int.{w32, from_le_bytes}
 use Rattle.wire.proofs.Headers.{header_length, magic_read}
 use Rattle.record.specs.Types.{code_of, type_at, type_ok, bootstrap, length_ok, error_at}
 use Rattle.record.proofs.TypesCases.{known_code, code_low, unknown_code, length_limit}
-use Rattle.record.specs.Record.{all_zero, length_row, bootstrap_row, payload_rows, payload_checks, rest_rows, header_rows, header_checks, type_from, record_with, record_of}
-use Rattle.record.specs.Record.{record_rows, encode_rows, record_bytes, encode_record, no_value, value_in, error_in}
+use Rattle.record.specs.Record.{header_rows, all_zero, length_row, bootstrap_row, payload_rows, payload_checks, rest_rows, header_checks, type_from, record_with, record_of}
+use Rattle.record.specs.Record.{record_rows, encode_rows, record_bytes, encode_record, value_in, error_in}
 use Rattle.record.specs.declared.types.RecordType.{RecordType}
-use Rattle.record.specs.declared.types.RecordType.TheVariants.{GuestAttach, Data}
-use Rattle.record.specs.declared.types.TypeLookup.{TypeLookup}
-use Rattle.record.specs.declared.types.TypeLookup.TheVariants.{Known, Unknown}
+use Rattle.record.specs.declared.types.RecordType.TheVariants.{GuestAttach, HostAttach, Reset, Ack, Data, Wait, Ready, Error, Credit}
 use Rattle.record.specs.declared.types.ErrorCode.{ErrorCode}
-use Rattle.record.specs.declared.types.ErrorLookup.{ErrorLookup}
-use Rattle.record.specs.declared.types.ErrorLookup.TheVariants as Found
 use Rattle.record.specs.declared.Record.{Record}
-use Rattle.record.specs.declared.Value.{Value}
-
--- ---- a check of one row
-module _ (t b : Bool) (r x : Refusal) (eb : b ≡ t) where
-  pub check_passes : b ≡ true → x ≡ none → x ≡ first ((t, r) ∷ [])
-  unfolding first
-  check_passes e q = row_passes t r x [] (sym eb ∙ e) q
-
-  pub check_stops : b ≡ false → x ≡ r → x ≡ first ((t, r) ∷ [])
-  check_stops e q = row_stops t r x [] (sym eb ∙ e) q
-
-pub ruleset checking = (check_passes, check_stops)
 
 -- ---- checks
-pub identity_instance : (z : Bool) (i : List ℕ) (e s : ℕ) → z ≡ all_zero i → not z ≡ true → false ≡ all_zero i && (eqb e 0 && eqb s 0)
-identity_instance z i e s ez n = simp (← ez, not-true z n)
+-- sixteen zeros byte by byte
+pub zeros : (l : List ℕ) → length l ≡ 16 → pointwise eqb l (replicate 16 0) ≡ all_zero l
+unfolding all_zero
+zeros l n = ap (λ (k : ℕ). pointwise eqb l (replicate k 0)) (sym n) ∙ go l
+  where
+    go : (xs : List ℕ) → pointwise eqb xs (replicate (length xs) 0) ≡ all_zero xs
+    go [] = refl
+    go (x ∷ xs) = ap (λ (b : Bool). eqb x 0 && b) (go xs)
 
-module _ (z : Bool) (i : List ℕ) (e s : ℕ) (ez : z ≡ all_zero i) (n : not z ≡ false) where
-  pub identity_epoch : (e ≡ 0 → ⊥) → false ≡ all_zero i && (eqb e 0 && eqb s 0)
-  identity_epoch h = simp (← ez, not-false z n, ne_eqb e 0 h)
+module _ (t : ℕ) (i : List ℕ) (e s : ℕ) (b : Bool) (eb : b ≡ bootstrap t) where
+  pub not_bootstrap : b ≡ false → none ≡ first (bootstrap_row t i e s ∷ [])
+  not_bootstrap n = row_passes _ _ _ [] (simp (← eb, n)) (no_rows none refl)
 
-  pub identity_sequence : e ≡ 0 → eqb s 0 ≡ all_zero i && (eqb e 0 && eqb s 0)
-  identity_sequence h = simp (← ez, not-false z n, eq-eqb e 0 h)
+  module _ (z : Bool) (y : b ≡ true) (ez : z ≡ all_zero i && (eqb e 0 && eqb s 0)) where
+    pub bootstrap_zero : z ≡ true → none ≡ first (bootstrap_row t i e s ∷ [])
+    bootstrap_zero h = row_passes _ _ _ [] (simp (← eb, y, ← ez, h)) (no_rows none refl)
 
-pub ruleset zeroing = (identity_instance, identity_epoch, identity_sequence)
+    pub bootstrap_named : (k : ℕ) → z ≡ false → k ≡ t → refusal 6 k 0 0 ≡ first (bootstrap_row t i e s ∷ [])
+    bootstrap_named k h ek = row_stops _ _ _ [] (simp (← eb, y, ← ez, h)) (ap (λ (j : ℕ). refusal 6 j 0 0) ek)
 
-module _ (t : ℕ) (i : List ℕ) (e s : ℕ) (b : Bool) (x : Refusal) (eb : b ≡ bootstrap t) where
-  pub not_bootstrap : not b ≡ true → x ≡ none → x ≡ first (bootstrap_row t i e s ∷ [])
-  not_bootstrap n q = row_passes _ _ x [] (simp (← eb, not-true b n)) (no_rows x q)
+pub length_stops : (t n k : ℕ) (b : Bool) → b ≡ length_ok t n → b ≡ false → k ≡ t → refusal 5 k n 0 ≡ first (length_row t n ∷ [])
+length_stops t n k b eb e ek = row_stops _ _ _ [] (sym eb ∙ e) (ap (λ (j : ℕ). refusal 5 j n 0) ek)
 
-  module _ (z : Bool) (n : not b ≡ false) (ez : z ≡ all_zero i && (eqb e 0 && eqb s 0)) where
-    pub bootstrap_zero : z ≡ true → x ≡ none → x ≡ first (bootstrap_row t i e s ∷ [])
-    bootstrap_zero h q = row_passes _ _ x [] (simp (← eb, not-false b n, ← ez, h)) (no_rows x q)
-
-    pub bootstrap_named : (k : ℕ) → z ≡ false → k ≡ t → x ≡ refusal 6 k 0 0 → x ≡ first (bootstrap_row t i e s ∷ [])
-    bootstrap_named k h ek q = row_stops _ _ x [] (simp (← eb, not-false b n, ← ez, h)) (q ∙ ap (λ (j : ℕ). refusal 6 j 0 0) ek)
-
-pub ruleset bootstrapping = (not_bootstrap, bootstrap_zero, bootstrap_named)
-
-pub length_stops : (t n k : ℕ) (b : Bool) (x : Refusal) → b ≡ length_ok t n → b ≡ false → k ≡ t → x ≡ refusal 5 k n 0 → x ≡ first (length_row t n ∷ [])
-length_stops t n k b x eb e ek q = row_stops _ _ x [] (sym eb ∙ e) (q ∙ ap (λ (j : ℕ). refusal 5 j n 0) ek)
-
-pub error_stops : (v : ℕ) (l : ErrorLookup) (x : Refusal) → l ≡ error_at v → l ≡ Found.Unknown → x ≡ refusal 7 v 0 0 → x ≡ first ((eqb v 1, refusal 7 v 0 0) ∷ [])
+pub error_other : (v : ℕ) (l : Option ErrorCode) → l ≡ error_at v → l ≡ None → refusal 7 v 0 0 ≡ first ((eqb v 1, refusal 7 v 0 0) ∷ [])
 unfolding error_at
-error_stops v l x el eu q =
-    row_stops _ _ x [] (picked (λ (y : ErrorLookup). y ≡ Found.Unknown → eqb v 1 ≡ false) (eqb v 1) (λ _ z. cc) (λ z _. z) (sym el ∙ eu)) q
+error_other v l el eu =
+    row_stops _ _ _ [] (picked (λ (y : Option ErrorCode). y ≡ None → eqb v 1 ≡ false) (eqb v 1) (λ _ z. cc) (λ z _. z) (sym el ∙ eu)) refl
 
-pub error_passes : (v : ℕ) (e : ErrorCode) (l : ErrorLookup) (x : Refusal) → l ≡ error_at v → l ≡ Found.Known e → x ≡ none → x ≡ first ((eqb v 1, refusal 7 v 0 0) ∷ [])
+pub error_known : (v : ℕ) (e : ErrorCode) (l : Option ErrorCode) → l ≡ error_at v → l ≡ Some e → none ≡ first ((eqb v 1, refusal 7 v 0 0) ∷ [])
 unfolding error_at
-error_passes v e l x el eu q =
-    row_passes _ _ x [] (picked (λ (y : ErrorLookup). y ≡ Found.Known e → eqb v 1 ≡ true) (eqb v 1) (λ z _. z) (λ _ z. cc) (sym el ∙ eu)) (no_rows x q)
+error_known v e l el eu =
+    row_passes _ _ _ [] (picked (λ (y : Option ErrorCode). y ≡ Some e → eqb v 1 ≡ true) (eqb v 1) (λ z _. z) (λ _ z. cc) (sym el ∙ eu)) (no_rows none refl)
 
 -- ---- payloads by type: only 4, 9 and 8 have a value to check
 module _ (p : List ℕ) (v : ℕ) (x : Refusal) (ev : v ≡ value_of p) where
@@ -96,6 +77,18 @@ module _ (p : List ℕ) (v : ℕ) (x : Refusal) (ev : v ≡ value_of p) where
   unfolding payload_checks first
   error_value q = q ∙ ap (λ (j : ℕ). first ((eqb j 1, refusal 7 j 0 0) ∷ [])) ev
 
+pub no_payload : (t : RecordType) (p : List ℕ) → (t ≡ Ack → ⊥) → (t ≡ Error → ⊥) → (t ≡ Credit → ⊥) → none ≡ payload_checks (code_of t) p
+unfolding payload_checks first
+no_payload GuestAttach p a e c = refl
+no_payload HostAttach p a e c = refl
+no_payload Reset p a e c = refl
+no_payload Ack p a e c = absurd (a refl)
+no_payload Data p a e c = refl
+no_payload Wait p a e c = refl
+no_payload Ready p a e c = refl
+no_payload Error p a e c = absurd (e refl)
+no_payload Credit p a e c = absurd (c refl)
+
 -- ---- headers
 pub record_read : (h : List ℕ) (t : RecordType) (i : List ℕ) (e : Epoch) (s : Sequence) (n : ℕ)
     → i ≡ instance_of h → e.0 ≡ epoch_of h → s.0 ≡ sequence_of h → n ≡ length_of h
@@ -104,176 +97,131 @@ unfolding record_with
 record_read h t i e s n ei ee es en =
     λ j. record { record_type = t; instance_id = ei j; epoch = record { 0 = ee j }; sequence = record { 0 = es j }; length = en j }
 
-pub record_known : (h : List ℕ) (n : ℕ) (l : TypeLookup) (t : RecordType) (r : Record) → n ≡ type_of h → l ≡ type_at n → l ≡ Known t → r ≡ record_with t h → r ≡ record_of h
-record_known h n l t r en el ek er = er ∙ ap (λ (k : TypeLookup). record_with (type_from k) h) (sym ek ∙ el ∙ ap type_at en)
+pub record_known : (h : List ℕ) (n : ℕ) (l : Option RecordType) (t : RecordType) (r : Record) → n ≡ type_of h → l ≡ type_at n → l ≡ Some t → r ≡ record_with t h → r ≡ record_of h
+record_known h n l t r en el ek er = er ∙ ap (λ (k : Option RecordType). record_with (type_from k) h) (sym ek ∙ el ∙ ap type_at en)
 
-pub record_unknown : (h : List ℕ) (n : ℕ) (l : TypeLookup) (r : Record) → n ≡ type_of h → l ≡ type_at n → l ≡ Unknown → r ≡ record_with GuestAttach h → r ≡ record_of h
-record_unknown h n l r en el ek er = er ∙ ap (λ (k : TypeLookup). record_with (type_from k) h) (sym ek ∙ el ∙ ap type_at en)
+pub record_unknown : (h : List ℕ) (n : ℕ) (l : Option RecordType) (r : Record) → n ≡ type_of h → l ≡ type_at n → l ≡ None → r ≡ record_with GuestAttach h → r ≡ record_of h
+record_unknown h n l r en el ek er = er ∙ ap (λ (k : Option RecordType). record_with (type_from k) h) (sym ek ∙ el ∙ ap type_at en)
 
 module _ (t : ℕ) (h : List ℕ) (f : ℕ) (ef : f ≡ flags_of h) where
-  pub rest_flags : (x : Refusal) → (f ≡ 0 → ⊥) → x ≡ refusal 4 f 0 0 → x ≡ first (rest_rows t h)
-  rest_flags x n q = row_stops _ _ x _ (ne_eqb (flags_of h) 0 (λ p. n (ef ∙ p))) (q ∙ ap (λ (j : ℕ). refusal 4 j 0 0) ef)
+  pub rest_flags : (f ≡ 0 → ⊥) → refusal 4 f 0 0 ≡ first (rest_rows t h)
+  rest_flags n = row_stops _ _ _ _ (ne_eqb (flags_of h) 0 (λ p. n (ef ∙ p))) (ap (λ (j : ℕ). refusal 4 j 0 0) ef)
 
-  module _ (n : ℕ) (x : Refusal) (z : f ≡ 0) (en : n ≡ length_of h) (ex : x ≡ first (length_row t n ∷ [])) where
+  module _ (n : ℕ) (z : f ≡ 0) (en : n ≡ length_of h) where
     flags_pass : eqb (flags_of h) 0 ≡ true
     flags_pass = eq-eqb (flags_of h) 0 (sym ef ∙ z)
 
-    length_told : x ≡ first (length_row t (length_of h) ∷ [])
-    length_told = ex ∙ ap (λ (k : ℕ). first (length_row t k ∷ [])) en
+    pub rest_length : (e : Errors.Error) → refusal_of e ≡ first (length_row t n ∷ []) → refusal_of e ≡ first (rest_rows t h)
+    rest_length e q =
+        row_passes _ _ _ _ flags_pass (error_stops (length_row t (length_of h) ∷ []) _ e (q ∙ ap (λ (k : ℕ). first (length_row t k ∷ [])) en))
 
-    pub rest_length : (x.number ≡ 0 → ⊥) → x ≡ first (rest_rows t h)
-    rest_length p = row_passes _ _ x _ flags_pass (rows_stop (length_row t (length_of h) ∷ []) _ x length_told p)
-
-    pub rest_bootstrap : (i : List ℕ) (e s : ℕ) (y : Refusal) → x.number ≡ 0 → i ≡ instance_of h → e ≡ epoch_of h → s ≡ sequence_of h
+    pub rest_bootstrap : (i : List ℕ) (e s : ℕ) (y : Refusal) → none ≡ first (length_row t n ∷ []) → i ≡ instance_of h → e ≡ epoch_of h → s ≡ sequence_of h
         → y ≡ first (bootstrap_row t i e s ∷ []) → y ≡ first (rest_rows t h)
     rest_bootstrap i e s y p ei ee es q =
-        row_passes _ _ y _ flags_pass
-        (rows_pass (length_row t (length_of h) ∷ []) _ x y (refl, tt) length_told p (q ∙ (λ j. first (bootstrap_row t (ei j) (ee j) (es j) ∷ []))))
-
-pub ruleset resting = (rest_flags, rest_length, rest_bootstrap)
+        row_passes _ _ _ _ flags_pass
+        (check_passes (length_row t (length_of h) ∷ []) _ y (refl, tt) (p ∙ ap (λ (k : ℕ). first (length_row t k ∷ [])) en)
+        (q ∙ (λ j. first (bootstrap_row t (ei j) (ee j) (es j) ∷ []))))
 
 module _ (h : List ℕ) (m g : ℕ) (em : m ≡ magic_of h) (eg : g ≡ from_le_bytes w32 magic) where
-  pub head_magic : (x : Refusal) → (m ≡ g → ⊥) → x ≡ refusal 1 m 0 0 → x ≡ header_checks h
+  pub head_magic : (m ≡ g → ⊥) → refusal 1 m 0 0 ≡ header_checks h
   unfolding header_checks
-  head_magic x n q = row_stops _ _ x _ (ne_eqb (magic_of h) (from_le magic) (λ p. n (em ∙ p ∙ sym (eg ∙ magic_read)))) (q ∙ ap (λ (j : ℕ). refusal 1 j 0 0) em)
+  head_magic n = row_stops _ _ _ _ (ne_eqb (magic_of h) (from_le magic) (λ p. n (em ∙ p ∙ sym (eg ∙ magic_read)))) (ap (λ (j : ℕ). refusal 1 j 0 0) em)
 
   module _ (v : ℕ) (p : m ≡ g) (ev : v ≡ version_of h) where
     magic_pass : eqb (magic_of h) (from_le magic) ≡ true
     magic_pass = eq-eqb (magic_of h) (from_le magic) (sym em ∙ p ∙ eg ∙ magic_read)
 
-    pub head_version : (x : Refusal) → (v ≡ 1 → ⊥) → x ≡ refusal 2 v 0 0 → x ≡ header_checks h
+    pub head_version : (v ≡ 1 → ⊥) → refusal 2 v 0 0 ≡ header_checks h
     unfolding header_checks
-    head_version x n q =
-        row_passes _ _ x _ magic_pass (row_stops _ _ x _ (ne_eqb (version_of h) 1 (λ e. n (ev ∙ e))) (q ∙ ap (λ (j : ℕ). refusal 2 j 0 0) ev))
+    head_version n =
+        row_passes _ _ _ _ magic_pass (row_stops _ _ _ _ (ne_eqb (version_of h) 1 (λ e. n (ev ∙ e))) (ap (λ (j : ℕ). refusal 2 j 0 0) ev))
 
-    module _ (k : ℕ) (l : TypeLookup) (x : Refusal) (one : v ≡ 1) (ek : k ≡ type_of h) (el : l ≡ type_at k) where
+    module _ (k : ℕ) (l : Option RecordType) (one : v ≡ 1) (ek : k ≡ type_of h) (el : l ≡ type_at k) where
       version_pass : eqb (version_of h) 1 ≡ true
       version_pass = eq-eqb (version_of h) 1 (sym ev ∙ one)
 
-      pub head_type : l ≡ Unknown → x ≡ refusal 3 k 0 0 → x ≡ header_checks h
+      pub head_type : l ≡ None → refusal 3 k 0 0 ≡ header_checks h
       unfolding header_checks
-      head_type u q =
-          row_passes _ _ x _ magic_pass
-          (row_passes _ _ x _ version_pass
-          (row_stops _ _ x _ (unknown_code (type_of h) (ap type_at (sym ek) ∙ sym el ∙ u)) (q ∙ ap (λ (j : ℕ). refusal 3 j 0 0) ek)))
+      head_type u =
+          row_passes _ _ _ _ magic_pass
+          (row_passes _ _ _ _ version_pass
+          (row_stops _ _ _ _ (unknown_code (type_of h) (ap type_at (sym ek) ∙ sym el ∙ u)) (ap (λ (j : ℕ). refusal 3 j 0 0) ek)))
 
-      pub head_rest : (t : RecordType) → l ≡ Known t → x ≡ first (rest_rows (code_of t) h) → x ≡ header_checks h
+      pub head_rest : (t : RecordType) (x : Refusal) → l ≡ Some t → x ≡ first (rest_rows (code_of t) h) → x ≡ header_checks h
       unfolding header_checks
-      head_rest t u q =
+      head_rest t x u q =
           let c : code_of t ≡ type_of h = known_code (type_of h) t (ap type_at (sym ek) ∙ sym el ∙ u) in
           row_passes _ _ x _ magic_pass
           (row_passes _ _ x _ version_pass
           (row_passes _ _ x _ (ap type_ok (sym c) ∙ code_low t) (q ∙ ap (λ (j : ℕ). first (rest_rows j h)) c)))
 
-pub ruleset heading = (head_magic, head_version, head_type, head_rest)
+-- a header of DATA that passes, by its tests
+data_tests : (h : List ℕ) → outer_ok h && (eqb (type_of h) 5 && length_ok 5 (length_of h)) ≡ eqb (type_of h) 5 && passes (header_checks h)
+unfolding header_checks first flags_of type_at outer_ok
+data_tests h = go (eqb (magic_of h) (from_le magic)) (eqb (version_of h) 1) (eqb (type_of h) 5) refl
+  where
+    five : (f l : Bool) → f && l ≡ passes (pick f (pick l (pick (not (bootstrap 5) || (all_zero (instance_of h) && (eqb (epoch_of h) 0 && eqb (sequence_of h) 0))) none (refusal 6 5 0 0)) (refusal 5 5 (length_of h) 0)) (refusal 4 (flags_of h) 0 0))
+    five true true = refl
+    five true false = refl
+    five false l = refl
+    go : (m v t : Bool) → eqb (type_of h) 5 ≡ t
+        → (m && (v && eqb (flags_of h) 0)) && (t && length_ok 5 (length_of h)) ≡ t && passes (pick m (pick v (pick (type_ok (type_of h)) (first (rest_rows (type_of h) h)) (refusal 3 (type_of h) 0 0)) (refusal 2 (version_of h) 0 0)) (refusal 1 (magic_of h) 0 0))
+    go true true true e =
+        let q : type_of h ≡ 5 = eqb-true (type_of h) 5 e in
+        five (eqb (flags_of h) 0) (length_ok 5 (length_of h)) ∙ ap (λ (k : ℕ). passes (pick (type_ok k) (first (rest_rows k h)) (refusal 3 k 0 0))) (sym q)
+    go true true false e = and-false (eqb (flags_of h) 0)
+    go true false true e = refl
+    go true false false e = refl
+    go false v true e = refl
+    go false v false e = refl
 
--- a header of DATA that passes, and what the checks say by their number
-data_passes : (h : List ℕ) (m g v t f n : ℕ) (b : Bool) → m ≡ magic_of h → g ≡ from_le_bytes w32 magic → m ≡ g → v ≡ version_of h → v ≡ 1 → t ≡ type_of h → t ≡ 5 → f ≡ flags_of h → f ≡ 0
-    → n ≡ length_of h → b ≡ length_ok 5 n → b ≡ true → passes (header_checks h) ≡ true
+module _ (h : List ℕ) (b v : Bool) (eb : b ≡ outer_ok h) where
+  pub data_not_outer : b ≡ false → v ≡ false → v ≡ eqb (type_of h) 5 && passes (header_checks h)
+  data_not_outer n z = z ∙ ap (λ (x : Bool). x && (eqb (type_of h) 5 && length_ok 5 (length_of h))) (sym n ∙ eb) ∙ data_tests h
+
+  module _ (k : ℕ) (y : b ≡ true) (ek : k ≡ type_of h) (ev : v ≡ eqb k 5) where
+    tested : v && length_ok 5 (length_of h) ≡ eqb (type_of h) 5 && passes (header_checks h)
+    tested = (λ j. (sym y ∙ eb) j && ((ev ∙ ap (λ (n : ℕ). eqb n 5) ek) j && length_ok 5 (length_of h))) ∙ data_tests h
+
+    pub data_other : v ≡ false → v ≡ eqb (type_of h) 5 && passes (header_checks h)
+    data_other z = z ∙ ap (λ (x : Bool). x && length_ok 5 (length_of h)) (sym z) ∙ tested
+
+    pub data_length : (n : ℕ) (l : Bool) → v ≡ true → n ≡ length_of h → l ≡ length_ok 5 n → l ≡ eqb (type_of h) 5 && passes (header_checks h)
+    data_length n l t en el = el ∙ ap (length_ok 5) en ∙ ap (λ (x : Bool). x && length_ok 5 (length_of h)) (sym t) ∙ tested
+
+pub data_passes : (h : List ℕ) (b : Bool) → b ≡ eqb (type_of h) 5 && passes (header_checks h) → b ≡ true → none ≡ header_checks h
 unfolding header_checks
-data_passes h m g v t f n b em eg mg ev v1 et t5 ef f0 en eb ok =
-    let five : type_of h ≡ 5 = sym et ∙ t5 in
-    let size : length_ok (type_of h) (length_of h) ≡ true = (λ j. length_ok (five j) (sym en j)) ∙ sym eb ∙ ok in
-    pass_all (header_rows h) (
-      eq-eqb (magic_of h) (from_le magic) (sym em ∙ mg ∙ eg ∙ magic_read),
-      (
-        eq-eqb (version_of h) 1 (sym ev ∙ v1),
-        (
-          ap type_ok five ∙ code_low Data,
-          (
-            eq-eqb (flags_of h) 0 (sym ef ∙ f0),
-            (
-              size,
-              (
-                ap (λ (k : ℕ). not (bootstrap k) || (all_zero (instance_of h) && (eqb (epoch_of h) 0 && eqb (sequence_of h) 0))) five,
-                tt,
-              ),
-            ),
-          ),
-        ),
-      ),
-    )
-
--- not both
-pub neither : (a b : Bool) → (a ≡ true → b ≡ true → ⊥) → false ≡ a && b
-neither true true n = absurd (n refl refl)
-neither true false n = refl
-neither false b n = refl
-
-module _ (h : List ℕ) where
-  rows_hold : passes (header_checks h) ≡ true → Passed (header_rows h)
-  unfolding header_checks
-  rows_hold e = passed (header_rows h) (refl, (refl, (refl, (refl, (refl, (refl, tt)))))) e
-
-  not_data : (eqb (type_of h) 5 ≡ true → passes (header_checks h) ≡ true → ⊥) → false ≡ eqb (type_of h) 5 && passes (header_checks h)
-  not_data = neither (eqb (type_of h) 5) (passes (header_checks h))
-
-  pub data_magic : (m g : ℕ) → m ≡ magic_of h → g ≡ from_le_bytes w32 magic → (m ≡ g → ⊥) → false ≡ eqb (type_of h) 5 && passes (header_checks h)
-  data_magic m g em eg n = not_data (λ t p. n (em ∙ eqb-true (magic_of h) (from_le magic) (rows_hold p).0 ∙ sym (eg ∙ magic_read)))
-
-  pub data_version : (v : ℕ) → v ≡ version_of h → (v ≡ 1 → ⊥) → false ≡ eqb (type_of h) 5 && passes (header_checks h)
-  data_version v ev n = not_data (λ t p. n (ev ∙ eqb-true (version_of h) 1 (rows_hold p).1.0))
-
-  pub data_type : (k : ℕ) → k ≡ type_of h → (k ≡ 5 → ⊥) → false ≡ eqb (type_of h) 5 && passes (header_checks h)
-  data_type k ek n = not_data (λ t p. n (ek ∙ eqb-true (type_of h) 5 t))
-
-  pub data_flags : (f : ℕ) → f ≡ flags_of h → (f ≡ 0 → ⊥) → false ≡ eqb (type_of h) 5 && passes (header_checks h)
-  data_flags f ef n = not_data (λ t p. n (ef ∙ eqb-true (flags_of h) 0 (rows_hold p).1.1.1.0))
-
-  pub data_length_lem : (m g v k f n : ℕ) (b : Bool) → m ≡ magic_of h → g ≡ from_le_bytes w32 magic → m ≡ g → v ≡ version_of h → v ≡ 1 → k ≡ type_of h → k ≡ 5 → f ≡ flags_of h → f ≡ 0
-      → n ≡ length_of h → b ≡ length_ok 5 n → b ≡ eqb (type_of h) 5 && passes (header_checks h)
-  data_length_lem m g v k f n b em eg mg ev v1 ek k5 ef f0 en eb = go b refl
-    where
-      go : (c : Bool) → b ≡ c → c ≡ eqb (type_of h) 5 && passes (header_checks h)
-      go true e = simp (eq-eqb (type_of h) 5 (sym ek ∙ k5), data_passes h m g v k f n b em eg mg ev v1 ek k5 ef f0 en eb e)
-      go false e =
-          not_data (λ t p.
-          let q : length_ok (type_of h) (length_of h) ≡ true = (rows_hold p).1.1.1.1.0 in
-          let r : length_ok (type_of h) (length_of h) ≡ false = (λ j. length_ok ((sym ek ∙ k5) j) (sym en j)) ∙ sym eb ∙ e in
-          let z : ◌≡◌ {A = ℕ} 0 1 = cc in
-          omega arith)
-
-pub ruleset data-headers = (data_magic, data_version, data_type, data_flags, data_length_lem)
-
-pub ok_data : (h : List ℕ) (b : Bool) → b ≡ eqb (type_of h) 5 && passes (header_checks h) → b ≡ true → true ≡ passes (header_checks h)
-ok_data h b f e = sym (and_right (eqb (type_of h) 5) (passes (header_checks h)) (sym f ∙ e))
-
-pub ok_number : (h : List ℕ) (x : Refusal) → x ≡ header_checks h → eqb x.number 0 ≡ passes (header_checks h)
-ok_number h x e = ap passes e
-
-pub ruleset accepting = (ok_data, ok_number)
+data_passes h b eb t =
+    none_stops (header_rows h) (passed (header_rows h) (refl, (refl, (refl, (refl, (refl, (refl, tt)))))) (and_right (eqb (type_of h) 5) (passes (first (header_rows h))) (sym eb ∙ t)))
 
 -- ---- the encoder
-module _ (t : ℕ) (i : List ℕ) (e s : ℕ) (p : List ℕ) (x : Refusal) (ex : x ≡ first (length_row t (length p) ∷ [])) where
-  pub record_length : (x.number ≡ 0 → ⊥) → x ≡ first (record_rows t i e s p)
-  record_length n = rows_stop (length_row t (length p) ∷ []) _ x ex n
+module _ (t : ℕ) (i : List ℕ) (e s : ℕ) (p : List ℕ) where
+  pub record_length : (x : Errors.Error) → refusal_of x ≡ first (length_row t (length p) ∷ []) → refusal_of x ≡ first (record_rows t i e s p)
+  record_length x q = error_stops (length_row t (length p) ∷ []) _ x q
 
-  module _ (y : Refusal) (z : x.number ≡ 0) (ey : y ≡ first (bootstrap_row t i e s ∷ [])) where
-    pub record_bootstrap : (y.number ≡ 0 → ⊥) → y ≡ first (record_rows t i e s p)
-    record_bootstrap n =
-        rows_pass (length_row t (length p) ∷ []) _ x y (refl, tt) ex z (rows_stop (bootstrap_row t i e s ∷ []) (payload_rows t p) y ey n)
+  module _ (fits : none ≡ first (length_row t (length p) ∷ [])) where
+    pub record_bootstrap : (x : Errors.Error) → refusal_of x ≡ first (bootstrap_row t i e s ∷ []) → refusal_of x ≡ first (record_rows t i e s p)
+    record_bootstrap x q =
+        check_passes (length_row t (length p) ∷ []) _ (refusal_of x) (refl, tt) fits (error_stops (bootstrap_row t i e s ∷ []) (payload_rows t p) x q)
 
-    pub record_payload : (w : Refusal) → y.number ≡ 0 → w ≡ payload_checks t p → w ≡ first (record_rows t i e s p)
+    pub record_payload : (y : Refusal) → none ≡ first (bootstrap_row t i e s ∷ []) → y ≡ payload_checks t p → y ≡ first (record_rows t i e s p)
     unfolding payload_checks
-    record_payload w n q =
-        rows_pass (length_row t (length p) ∷ []) _ x w (refl, tt) ex z (rows_pass (bootstrap_row t i e s ∷ []) (payload_rows t p) y w (refl, tt) ey n q)
-
-pub ruleset recording = (record_length, record_bootstrap, record_payload)
+    record_payload y zero q =
+        check_passes (length_row t (length p) ∷ []) _ y (refl, tt) fits (check_passes (bootstrap_row t i e s ∷ []) (payload_rows t p) y (refl, tt) zero q)
 
 -- what the rows tell of the length
-pub length_fits : (t : ℕ) (i : List ℕ) (e s : ℕ) (p : List ℕ) (x : Refusal) → x ≡ first (record_rows t i e s p) → x.number ≡ 0 → length p ≤ 65536
-length_fits t i e s p x ex n =
-    length_limit t (length p)
-    (passed (record_rows t i e s p) (refl, (refl, (refl, (refl, (refl, tt))))) (ap (λ (r : Refusal). passes r) (sym ex) ∙ eq-eqb x.number 0 n)).0
+pub length_fits : (t : ℕ) (i : List ℕ) (e s : ℕ) (p : List ℕ) → none ≡ first (record_rows t i e s p) → length p ≤ 65536
+length_fits t i e s p q =
+    length_limit t (length p) (passed (record_rows t i e s p) (refl, (refl, (refl, (refl, (refl, tt))))) (ap passes (sym q))).0
 
-module _ (t : ℕ) (i : List ℕ) (e s : ℕ) (p o : List ℕ) (at : ℕ) (x : Refusal) (ex : x ≡ first (record_rows t i e s p)) where
-  pub encode_stops : (x.number ≡ 0 → ⊥) → outcome (record { refusal = x; next = 0 }) o ≡ encode_record t i e s p o at
+module _ (t : ℕ) (i : List ℕ) (e s : ℕ) (p o : List ℕ) (at : ℕ) where
+  pub encode_stops : (x : Errors.Error) → refusal_of x ≡ first (record_rows t i e s p) → outcome (written (Err x)) o ≡ encode_record t i e s p o at
   unfolding encode_record write
-  encode_stops n =
-      let q : x ≡ first (encode_rows t i e s p o at) = rows_stop (record_rows t i e s p) (room_row o at (44 + length p) ∷ []) x ex n in
-      rw (← q) (simp (ne_eqb x.number 0 n))
+  encode_stops x q =
+      let k : refusal_of x ≡ first (encode_rows t i e s p o at) = error_stops (record_rows t i e s p) (room_row o at (44 + length p) ∷ []) x q in
+      rw (← k, refuses x) refl
 
-  pub encode_put : (k : ℕ) (header o2 : List ℕ) (w : Written) → x.number ≡ 0 → length i ≡ 16 → k ≡ t → header ≡ header_bytes k i e s (length p)
+  pub encode_put : (k : ℕ) (header o2 : List ℕ) (w : Written) → none ≡ first (record_rows t i e s p) → length i ≡ 16 → k ≡ t → header ≡ header_bytes k i e s (length p)
       → outcome w o2 ≡ put_record header p o at → outcome w o2 ≡ encode_record t i e s p o at
   unfolding encode_record put_record
   encode_put k header o2 w z li ek eh q =
@@ -282,35 +230,43 @@ module _ (t : ℕ) (i : List ℕ) (e s : ℕ) (p o : List ℕ) (at : ℕ) (x : R
       length-append header p ∙ ap (λ (l : List ℕ). length l + length p) f ∙ ap (λ (j : ℕ). j + length p) (header_length t i e s (length p) li)
       in
       let rows : first (room_row o at (44 + length p) ∷ []) ≡ first (encode_rows t i e s p o at) =
-      rows_pass (record_rows t i e s p) (room_row o at (44 + length p) ∷ []) x (first (room_row o at (44 + length p) ∷ [])) (refl, (refl, (refl, (refl, (refl, tt))))) ex z refl
+      check_passes (record_rows t i e s p) (room_row o at (44 + length p) ∷ []) (first (room_row o at (44 + length p) ∷ [])) (refl, (refl, (refl, (refl, (refl, tt))))) z refl
       in
       q ∙ (λ j. write (first (room_row o at (size j) ∷ [])) (f j ++ p) o at) ∙ ap (λ (r : Refusal). write r (record_bytes t i e s p) o at) rows
 
 -- ---- a record's asks
-pub value_other : (wanted t : ℕ) (p : List ℕ) → (t ≡ wanted → ⊥) → no_value ≡ value_in wanted t p
+pub not_ack : (t : RecordType) (p : List ℕ) → (t ≡ Ack → ⊥) → None ≡ value_in 4 (code_of t) p
 unfolding value_in
-value_other wanted t p n = simp (ne_eqb t wanted n)
+not_ack GuestAttach p n = refl
+not_ack HostAttach p n = refl
+not_ack Reset p n = refl
+not_ack Ack p n = absurd (n refl)
+not_ack Data p n = refl
+not_ack Wait p n = refl
+not_ack Ready p n = refl
+not_ack Error p n = refl
+not_ack Credit p n = refl
 
-pub value_size : (wanted t : ℕ) (p : List ℕ) → t ≡ wanted → (length p ≡ 4 → ⊥) → no_value ≡ value_in wanted t p
+pub not_credit : (t : RecordType) (p : List ℕ) → (t ≡ Credit → ⊥) → None ≡ value_in 9 (code_of t) p
 unfolding value_in
-value_size wanted t p e n = simp (eq-eqb t wanted e, ne_eqb (length p) 4 n)
+not_credit GuestAttach p n = refl
+not_credit HostAttach p n = refl
+not_credit Reset p n = refl
+not_credit Ack p n = refl
+not_credit Data p n = refl
+not_credit Wait p n = refl
+not_credit Ready p n = refl
+not_credit Error p n = refl
+not_credit Credit p n = absurd (n refl)
 
-pub value_some : (wanted t v : ℕ) (p : List ℕ) → t ≡ wanted → length p ≡ 4 → v ≡ value_of p → record { present = true; value = v } ≡ value_in wanted t p
-unfolding value_in
-value_some wanted t v p e n q = simp (eq-eqb t wanted e, eq-eqb (length p) 4 n) (ap (λ (k : ℕ). record { present = true; value = k }) q)
-
-pub value_told : (wanted k t : ℕ) (p : List ℕ) (r : Value) → k ≡ t → r ≡ value_in wanted k p → r ≡ value_in wanted t p
-value_told wanted k t p r e q = q ∙ ap (λ (j : ℕ). value_in wanted j p) e
-
-pub ruleset asking = (value_other, value_size, value_some)
-
-module _ (t k : ℕ) (p : List ℕ) (ek : k ≡ t) where
-  pub error_other : (k ≡ 8 → ⊥) → Found.Unknown ≡ error_in t p
-  unfolding error_in
-  error_other n = simp (ne_eqb t 8 (λ q. n (ek ∙ q)))
-
-  pub error_some : (v : ℕ) (l : ErrorLookup) → k ≡ 8 → v ≡ value_of p → l ≡ error_at v → l ≡ error_in t p
-  unfolding error_in
-  error_some v l n ev q = simp (eq-eqb t 8 (sym ek ∙ n)) (q ∙ ap error_at ev)
-
-pub ruleset erring = (error_other, error_some)
+pub not_error : (t : RecordType) (p : List ℕ) → (t ≡ Error → ⊥) → None ≡ error_in (code_of t) p
+unfolding error_in
+not_error GuestAttach p n = refl
+not_error HostAttach p n = refl
+not_error Reset p n = refl
+not_error Ack p n = refl
+not_error Data p n = refl
+not_error Wait p n = refl
+not_error Ready p n = refl
+not_error Error p n = absurd (n refl)
+not_error Credit p n = refl

@@ -1,29 +1,27 @@
 -- The cases of types, lengths and error values, a law for each `return` of the code, and what the layers above use of them. Assumes nothing.
-use Prim.Native.Nat.{ℕ, ◌≤◌, ◌<◌}
+use Prim.Native.Nat.{ℕ, ◌≤◌}
 use mathlib.Core.Path.{◌≡◌, refl, sym, ap, ◌∙◌}
-use mathlib.Core.Bool.{Bool, true, false, ◌&&◌, ◌||◌}
+use mathlib.Core.Bool.{Bool, true, false, ◌||◌}
 use native.Mathlib.Omega.{arith}
+use Rattle.std.specs.Prelude.{Option, Some, None}
 use lib.Dec.{eqb, leb}
-use borrow.Author.Tests.{le-leb, lt-leb, eqb-true, leb-true}
-use Rattle.outer.specs.Outer.{max_payload}
+use borrow.Author.Tests.{eqb-true, leb-true}
 use Rattle.wire.proofs.Rows.{picked, and_right}
 use Rattle.record.specs.Types.{code_of, type_at, known, type_ok, length_ok, error_of}
 use Rattle.record.specs.declared.types.RecordType.{RecordType}
 use Rattle.record.specs.declared.types.RecordType.TheVariants.{GuestAttach, HostAttach, Reset, Ack, Data, Wait, Ready, Error, Credit}
-use Rattle.record.specs.declared.types.TypeLookup.{TypeLookup}
-use Rattle.record.specs.declared.types.TypeLookup.TheVariants.{Known, Unknown}
 use Rattle.record.specs.declared.types.ErrorCode.{ErrorCode}
 use Rattle.record.specs.declared.types.ErrorCode.TheVariants.{Authentication}
 
 -- a code that stands for a type is that type's
 module _ (n : ℕ) where
-  arm : (k : ℕ) (u t : RecordType) → code_of u ≡ k → eqb n k ≡ true → Known u ≡ Known t → code_of t ≡ n
+  arm : (k : ℕ) (u t : RecordType) → code_of u ≡ k → eqb n k ≡ true → Some u ≡ Some t → code_of t ≡ n
   arm k u t c e q = let z : u ≡ t = cc in ap code_of (sym z) ∙ c ∙ sym (eqb-true n k e)
 
-  pub known_code : (t : RecordType) → type_at n ≡ Known t → code_of t ≡ n
+  pub known_code : (t : RecordType) → type_at n ≡ Some t → code_of t ≡ n
   unfolding type_at
   known_code t =
-      let P : TypeLookup → Type 0 = λ (l : TypeLookup). l ≡ Known t → code_of t ≡ n in
+      let P : Option RecordType → Type 0 = λ (l : Option RecordType). l ≡ Some t → code_of t ≡ n in
       picked P (eqb n 1) (arm 1 GuestAttach t refl)
       (λ _. picked P (eqb n 2) (arm 2 HostAttach t refl)
       (λ _. picked P (eqb n 3) (arm 3 Reset t refl)
@@ -34,7 +32,7 @@ module _ (n : ℕ) where
       (λ _. picked P (eqb n 8) (arm 8 Error t refl)
       (λ _. picked P (eqb n 9) (arm 9 Credit t refl) (λ _ q. cc)))))))))
 
-pub code_type : (t : RecordType) → type_at (code_of t) ≡ Known t
+pub code_type : (t : RecordType) → type_at (code_of t) ≡ Some t
 unfolding type_at
 code_type GuestAttach = refl
 code_type HostAttach = refl
@@ -49,17 +47,11 @@ code_type Credit = refl
 pub code_low : (t : RecordType) → type_ok (code_of t) ≡ true
 code_low t = ap known (code_type t)
 
-pub unknown_code : (n : ℕ) → type_at n ≡ Unknown → type_ok n ≡ false
+pub unknown_code : (n : ℕ) → type_at n ≡ None → type_ok n ≡ false
 unknown_code n e = ap known e
 
 pub only_error : (e : ErrorCode) → 1 ≡ error_of e
 only_error Authentication = refl
-
-pub data_empty : (n : ℕ) → n < 1 → false ≡ leb 1 n && leb n max_payload
-data_empty n h = simp (lt-leb 1 n h)
-
-pub data_some : (n : ℕ) → 1 ≤ n → leb n max_payload ≡ leb 1 n && leb n max_payload
-data_some n h = simp (le-leb 1 n h)
 
 -- no length above the largest payload passes
 pub length_limit : (t n : ℕ) → length_ok t n ≡ true → n ≤ 65536

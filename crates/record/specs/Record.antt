@@ -1,19 +1,15 @@
 -- Header checks, payload checks, the encoder and a record's asks (01, "Record", "Encoder", "What stops each operation").
-use Rattle.std.specs.Prelude.{ℕ, ◌+◌, Bool, true, false, not, ◌&&◌, ◌||◌, List, [], ◌∷◌, ◌++◌, length, replicate, eqb}
+use Rattle.std.specs.Prelude.{ℕ, ◌+◌, Bool, true, not, ◌&&◌, ◌||◌, List, [], ◌∷◌, ◌++◌, length, replicate, eqb, Option, Some, None}
 use Rattle.wire.specs.Bytes.{from_le}
 use Rattle.wire.specs.Refusals.{pick, refusal, first}
 use Rattle.wire.specs.Header.{magic, magic_of, version_of, type_of, flags_of, instance_of, epoch_of, sequence_of, length_of, header_bytes}
-use Rattle.outer.specs.Outer.{window_ok, credit_ok, value_of, Outcome, room_row, write}
+use Rattle.outer.specs.Outer.{window_ok, credit_ok, number_in, value_of, Outcome, room_row, write}
 use Rattle.wire.specs.declared.Refusal.{Refusal}
 use Rattle.record.specs.Types.{type_at, type_ok, bootstrap, length_ok, error_at}
 use Rattle.record.specs.declared.types.RecordType.{RecordType}
 use Rattle.record.specs.declared.types.RecordType.TheVariants.{GuestAttach}
-use Rattle.record.specs.declared.types.TypeLookup.{TypeLookup}
-use Rattle.record.specs.declared.types.TypeLookup.TheVariants.{Known, Unknown}
-use Rattle.record.specs.declared.types.ErrorLookup.{ErrorLookup}
-use Rattle.record.specs.declared.types.ErrorLookup.TheVariants as Found
+use Rattle.record.specs.declared.types.ErrorCode.{ErrorCode}
 use Rattle.record.specs.declared.Record.{Record}
-use Rattle.record.specs.declared.Value.{Value}
 
 -- ---- shared checks
 -- whether all bytes are zero
@@ -61,9 +57,9 @@ unfoldable pub header_checks : List ℕ → Refusal
 header_checks h = first (header_rows h)
 
 -- the type that a code stands for; the first type for an unknown one, which the header checks refuse
-abbrev pub type_from : TypeLookup → RecordType
-type_from (Known t) = t
-type_from Unknown = GuestAttach
+abbrev pub type_from : Option RecordType → RecordType
+type_from (Some t) = t
+type_from None = GuestAttach
 
 -- the fields of a header's bytes
 unfoldable pub record_with : RecordType → List ℕ → Record
@@ -106,17 +102,14 @@ encode_record t instance epoch sequence payload o at =
     write (first (encode_rows t instance epoch sequence payload o at)) (record_bytes t instance epoch sequence payload) o at
 
 -- ---- a record's asks: none but for types 4, 9 and 8; none where the payload is not four bytes (its value is then 0, no error code)
-abbrev pub no_value : Value
-no_value = record { present = false; value = 0 }
+unfoldable pub value_in : ℕ → ℕ → List ℕ → Option ℕ
+value_in wanted t payload = pick (eqb t wanted) (number_in payload) None
 
-unfoldable pub value_in : ℕ → ℕ → List ℕ → Value
-value_in wanted t payload = pick (eqb t wanted && eqb (length payload) 4) (record { present = true; value = value_of payload }) no_value
-
-abbrev pub window_in : ℕ → List ℕ → Value
+abbrev pub window_in : ℕ → List ℕ → Option ℕ
 window_in = value_in 4
 
-abbrev pub credit_in : ℕ → List ℕ → Value
+abbrev pub credit_in : ℕ → List ℕ → Option ℕ
 credit_in = value_in 9
 
-unfoldable pub error_in : ℕ → List ℕ → ErrorLookup
-error_in t payload = pick (eqb t 8) (error_at (value_of payload)) Found.Unknown
+unfoldable pub error_in : ℕ → List ℕ → Option ErrorCode
+error_in t payload = pick (eqb t 8) (error_at (value_of payload)) None

@@ -1,15 +1,11 @@
 -- Record types and error codes by their numbers (01, "Record").
-use Rattle.std.specs.Prelude.{ℕ, Bool, true, false, ◌&&◌, ◌||◌, eqb, leb}
+use Rattle.std.specs.Prelude.{ℕ, Bool, true, false, ◌&&◌, ◌||◌, eqb, leb, Option, Some, None}
 use Rattle.wire.specs.Refusals.{pick}
 use Rattle.outer.specs.Outer.{max_payload}
 use Rattle.record.specs.declared.types.RecordType.{RecordType}
 use Rattle.record.specs.declared.types.RecordType.TheVariants.{GuestAttach, HostAttach, Reset, Ack, Data, Wait, Ready, Error, Credit}
-use Rattle.record.specs.declared.types.TypeLookup.{TypeLookup}
-use Rattle.record.specs.declared.types.TypeLookup.TheVariants.{Known, Unknown}
 use Rattle.record.specs.declared.types.ErrorCode.{ErrorCode}
 use Rattle.record.specs.declared.types.ErrorCode.TheVariants.{Authentication}
-use Rattle.record.specs.declared.types.ErrorLookup.{ErrorLookup}
-use Rattle.record.specs.declared.types.ErrorLookup.TheVariants as Found
 
 abbrev pub code_of : RecordType → ℕ
 code_of GuestAttach = 1
@@ -22,22 +18,22 @@ code_of Ready = 7
 code_of Error = 8
 code_of Credit = 9
 
-unfoldable pub type_at : ℕ → TypeLookup
+unfoldable pub type_at : ℕ → Option RecordType
 type_at n =
-    pick (eqb n 1) (Known GuestAttach)
-    (pick (eqb n 2) (Known HostAttach)
-    (pick (eqb n 3) (Known Reset)
-    (pick (eqb n 4) (Known Ack)
-    (pick (eqb n 5) (Known Data)
-    (pick (eqb n 6) (Known Wait)
-    (pick (eqb n 7) (Known Ready)
-    (pick (eqb n 8) (Known Error)
-    (pick (eqb n 9) (Known Credit) Unknown))))))))
+    pick (eqb n 1) (Some GuestAttach)
+    (pick (eqb n 2) (Some HostAttach)
+    (pick (eqb n 3) (Some Reset)
+    (pick (eqb n 4) (Some Ack)
+    (pick (eqb n 5) (Some Data)
+    (pick (eqb n 6) (Some Wait)
+    (pick (eqb n 7) (Some Ready)
+    (pick (eqb n 8) (Some Error)
+    (pick (eqb n 9) (Some Credit) None))))))))
 
 -- whether a code stands for a type
-abbrev pub known : TypeLookup → Bool
-known (Known t) = true
-known Unknown = false
+abbrev pub known : Option RecordType → Bool
+known (Some t) = true
+known None = false
 
 abbrev pub type_ok : ℕ → Bool
 type_ok n = known (type_at n)
@@ -57,5 +53,5 @@ length_ok t n =
 abbrev pub error_of : ErrorCode → ℕ
 error_of Authentication = 1
 
-unfoldable pub error_at : ℕ → ErrorLookup
-error_at v = pick (eqb v 1) (Found.Known Authentication) Found.Unknown
+unfoldable pub error_at : ℕ → Option ErrorCode
+error_at v = pick (eqb v 1) (Some Authentication) None

@@ -1,16 +1,17 @@
 // A record read from its header, and the encoder.
 ghost use Rattle.std.specs.Prelude.{◌≡◌};
-ghost use Rattle.wire.specs.Refusals.{first};
-ghost use Rattle.outer.specs.Outer.{outcome};
+ghost use Rattle.wire.specs.Refusals.{verdict, first};
+ghost use Rattle.outer.specs.Outer.{written, outcome};
 ghost use Rattle.record.specs.Types.{code_of};
 ghost use Rattle.record.specs.Record.{record_rows, record_with, record_of, encode_record};
 
 use crate::Record;
 use crate::checks::{check_bootstrap, check_length, check_payload};
-use crate::types::{RecordType, TypeLookup};
-use outer::{Written, put_record};
+use crate::types::RecordType;
+use outer::put_record;
 use wire::header::encode_header;
-use wire::{Epoch, Refusal, Sequence, fields};
+use wire::errors::Error;
+use wire::{Epoch, Sequence, fields};
 
 // The fields of a header of a given type.
 fn record_with(header: &[u8; 44], record_type: RecordType) -> Record
@@ -29,10 +30,8 @@ fn record_with(header: &[u8; 44], record_type: RecordType) -> Record
 pub fn record_of(header: &[u8; 44]) -> Record
     ensures { result ≡ record_of header.now }
 {
-    let TypeLookup::Known(record_type) = RecordType::from_code(fields::record_type(header)) else {
-        return record_with(header, RecordType::GuestAttach);
-    };
-    record_with(header, record_type)
+    let known = RecordType::from_code(fields::record_type(header));
+    record_with(header, known.unwrap_or(RecordType::GuestAttach))
 }
 
 // The checks that the encoder makes before 22: 5, 6, then 8, 9, 7.
@@ -42,21 +41,15 @@ fn check_record(
     epoch: Epoch,
     sequence: Sequence,
     payload: &[u8],
-) -> Refusal
-    ensures { result ≡ first (record_rows (code_of record_type) instance_id epoch.0 sequence.0 payload.now) }
+) -> Result<(), Error>
+    ensures { verdict result ≡ first (record_rows (code_of record_type) instance_id epoch.0 sequence.0 payload.now) }
 {
-    let length = check_length(record_type, payload.len());
-    if length.number != 0 {
-        return length;
-    }
-    let bootstrap = check_bootstrap(record_type, instance_id, epoch, sequence);
-    if bootstrap.number != 0 {
-        return bootstrap;
-    }
+    check_length(record_type, payload.len())?;
+    check_bootstrap(record_type, instance_id, epoch, sequence)?;
     check_payload(record_type, payload)
 }
 
-// Validates one record and writes it at a position of the output.
+// Validates one record, writes it at a position of the output, and gives the position after it.
 pub fn encode_record(
     record_type: RecordType,
     instance_id: [u8; 16],
@@ -65,13 +58,10 @@ pub fn encode_record(
     payload: &[u8],
     output: &mut [u8],
     at: usize,
-) -> Written
-    ensures { outcome result output.new ≡ encode_record (code_of record_type) instance_id epoch.0 sequence.0 payload.now output.old at }
+) -> Result<usize, Error>
+    ensures { outcome (written result) output.new ≡ encode_record (code_of record_type) instance_id epoch.0 sequence.0 payload.now output.old at }
 {
-    let refusal = check_record(record_type, instance_id, epoch, sequence, payload);
-    if refusal.number != 0 {
-        return Written { refusal, next: 0 };
-    }
+    check_record(record_type, instance_id, epoch, sequence, payload)?;
     let code = record_type.code();
     let length = payload.len() as u32;
     let header = encode_header(code, instance_id, epoch, sequence, length);

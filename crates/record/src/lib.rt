@@ -10,27 +10,20 @@ pub mod types;
 
 ghost use Rattle.std.specs.Prelude.{◌≡◌};
 ghost use Rattle.record.specs.Types.{code_of};
-ghost use Rattle.record.specs.Record.{no_record, value_in, window_in, credit_in, error_in};
+ghost use Rattle.record.specs.Record.{no_record, window_in, credit_in, error_in};
 
-use crate::types::{ErrorCode, ErrorLookup, RecordType};
-use outer::payloads::value;
+use crate::types::{ErrorCode, RecordType};
+use outer::payloads::{number, value};
 use wire::{Epoch, Sequence};
 
 // A record that was decoded and validated, without its payload.
-#[derive(Clone, Copy)]
+#[derive(Clone, Copy, Debug, PartialEq, Eq)]
 pub struct Record {
     pub record_type: RecordType,
     pub instance_id: [u8; 16],
     pub epoch: Epoch,
     pub sequence: Sequence,
     pub length: usize,
-}
-
-// A number that may be missing.
-#[derive(Clone, Copy)]
-pub struct Value {
-    pub present: bool,
-    pub value: u32,
 }
 
 // No record: what an answer without one holds.
@@ -46,53 +39,34 @@ pub fn no_record() -> Record
     }
 }
 
-// The number in a payload of four bytes, of a record of the type that has one.
-fn value_in(wanted: u8, code: u8, payload: &[u8]) -> Value
-    ensures { result ≡ value_in wanted code payload.now }
-{
-    if code != wanted {
-        return Value {
-            present: false,
-            value: 0,
-        };
-    }
-    if payload.len() != 4 {
-        return Value {
-            present: false,
-            value: 0,
-        };
-    }
-    Value {
-        present: true,
-        value: value(payload),
-    }
-}
-
 impl Record {
     // The window of an ACK record, none for another type.
-    pub fn window(self, payload: &[u8]) -> Value
+    pub fn window(self, payload: &[u8]) -> Option<u32>
         ensures { result ≡ window_in (code_of self.record_type) payload.now }
     {
-        let record_type = self.record_type;
-        value_in(4, record_type.code(), payload)
+        match self.record_type {
+            RecordType::Ack => number(payload),
+            _ => None,
+        }
     }
 
     // The number of bytes that a CREDIT record returns, none for another type.
-    pub fn credit(self, payload: &[u8]) -> Value
+    pub fn credit(self, payload: &[u8]) -> Option<u32>
         ensures { result ≡ credit_in (code_of self.record_type) payload.now }
     {
-        let record_type = self.record_type;
-        value_in(9, record_type.code(), payload)
+        match self.record_type {
+            RecordType::Credit => number(payload),
+            _ => None,
+        }
     }
 
     // The code of an ERROR record, none for another type.
-    pub fn error_code(self, payload: &[u8]) -> ErrorLookup
+    pub fn error_code(self, payload: &[u8]) -> Option<ErrorCode>
         ensures { result ≡ error_in (code_of self.record_type) payload.now }
     {
-        let record_type = self.record_type;
-        if record_type.code() != 8 {
-            return ErrorLookup::Unknown;
+        match self.record_type {
+            RecordType::Error => ErrorCode::from_code(value(payload)),
+            _ => None,
         }
-        ErrorCode::from_code(value(payload))
     }
 }

@@ -1,6 +1,5 @@
 // Record types and error codes.
-ghost use Rattle.std.specs.Prelude.{◌≡◌, ◌&&◌, leb};
-ghost use Rattle.outer.specs.Outer.{max_payload};
+ghost use Rattle.std.specs.Prelude.{◌≡◌};
 ghost use Rattle.record.specs.Types.{code_of, type_at, bootstrap, length_ok, error_of, error_at};
 
 use outer::OUTER_MAX_PAYLOAD;
@@ -9,7 +8,7 @@ use outer::OUTER_MAX_PAYLOAD;
 pub const CAPABILITY_LEN: usize = 32;
 
 // Type of an NVXS record, the byte at offset 6 of its header.
-#[derive(Clone, Copy)]
+#[derive(Clone, Copy, Debug, PartialEq, Eq)]
 pub enum RecordType {
     GuestAttach,
     HostAttach,
@@ -22,34 +21,10 @@ pub enum RecordType {
     Credit,
 }
 
-// What a type's code stands for.
-#[derive(Clone, Copy)]
-pub enum TypeLookup {
-    Known(RecordType),
-    Unknown,
-}
-
 // Code of an ERROR record. Protocol version 1 defines one.
-#[derive(Clone, Copy)]
+#[derive(Clone, Copy, Debug, PartialEq, Eq)]
 pub enum ErrorCode {
     Authentication,
-}
-
-// What the value of an ERROR record stands for.
-#[derive(Clone, Copy)]
-pub enum ErrorLookup {
-    Known(ErrorCode),
-    Unknown,
-}
-
-// Whether a DATA record may carry so many bytes.
-fn data_length(length: usize) -> bool
-    ensures { result ≡ leb 1 length && leb length max_payload }
-{
-    if length < 1 {
-        return false;
-    }
-    length <= OUTER_MAX_PAYLOAD
 }
 
 impl RecordType {
@@ -72,20 +47,20 @@ impl RecordType {
 
     // The type with a code.
     #[tactic(auto, unfolding(crate::specs::Types::type_at))]
-    pub fn from_code(code: u8) -> TypeLookup
+    pub fn from_code(code: u8) -> Option<RecordType>
         ensures { result ≡ type_at code }
     {
         match code {
-            1 => TypeLookup::Known(RecordType::GuestAttach),
-            2 => TypeLookup::Known(RecordType::HostAttach),
-            3 => TypeLookup::Known(RecordType::Reset),
-            4 => TypeLookup::Known(RecordType::Ack),
-            5 => TypeLookup::Known(RecordType::Data),
-            6 => TypeLookup::Known(RecordType::Wait),
-            7 => TypeLookup::Known(RecordType::Ready),
-            8 => TypeLookup::Known(RecordType::Error),
-            9 => TypeLookup::Known(RecordType::Credit),
-            _ => TypeLookup::Unknown,
+            1 => Some(RecordType::GuestAttach),
+            2 => Some(RecordType::HostAttach),
+            3 => Some(RecordType::Reset),
+            4 => Some(RecordType::Ack),
+            5 => Some(RecordType::Data),
+            6 => Some(RecordType::Wait),
+            7 => Some(RecordType::Ready),
+            8 => Some(RecordType::Error),
+            9 => Some(RecordType::Credit),
+            _ => None,
         }
     }
 
@@ -93,17 +68,7 @@ impl RecordType {
     pub fn is_bootstrap(self) -> bool
         ensures { result ≡ bootstrap (code_of self) }
     {
-        match self {
-            RecordType::GuestAttach => true,
-            RecordType::HostAttach => true,
-            RecordType::Reset => false,
-            RecordType::Ack => false,
-            RecordType::Data => false,
-            RecordType::Wait => false,
-            RecordType::Ready => false,
-            RecordType::Error => false,
-            RecordType::Credit => false,
-        }
+        matches!(self, RecordType::GuestAttach | RecordType::HostAttach)
     }
 
     // Whether a record of this type may carry a payload of so many bytes.
@@ -112,15 +77,12 @@ impl RecordType {
         ensures { result ≡ length_ok (code_of self) length }
     {
         match self {
-            RecordType::GuestAttach => length == 0,
+            RecordType::GuestAttach | RecordType::Reset | RecordType::Wait | RecordType::Ready => {
+                length == 0
+            }
             RecordType::HostAttach => length == CAPABILITY_LEN,
-            RecordType::Reset => length == 0,
-            RecordType::Ack => length == 4,
-            RecordType::Data => data_length(length),
-            RecordType::Wait => length == 0,
-            RecordType::Ready => length == 0,
-            RecordType::Error => length == 4,
-            RecordType::Credit => length == 4,
+            RecordType::Data => 1 <= length && length <= OUTER_MAX_PAYLOAD,
+            RecordType::Ack | RecordType::Error | RecordType::Credit => length == 4,
         }
     }
 }
@@ -137,12 +99,12 @@ impl ErrorCode {
 
     // The code with a value.
     #[tactic(auto, unfolding(crate::specs::Types::error_at))]
-    pub fn from_code(code: u32) -> ErrorLookup
+    pub fn from_code(code: u32) -> Option<ErrorCode>
         ensures { result ≡ error_at code }
     {
         match code {
-            1 => ErrorLookup::Known(ErrorCode::Authentication),
-            _ => ErrorLookup::Unknown,
+            1 => Some(ErrorCode::Authentication),
+            _ => None,
         }
     }
 }

@@ -8,11 +8,13 @@ use lib.ListN.{length, take, drop}
 use lib.Dec.{ltb}
 use borrow.Author.Tests.{ne_eqb, eqb-false}
 use Rattle.wire.specs.Bytes.{overlay}
-use Rattle.wire.specs.Refusals.{refusal, none, first, passes}
+use Rattle.wire.specs.Refusals.{refusal_of, refusal, none, first, passes}
 use Rattle.outer.specs.Outer as outer
 use Rattle.wire.specs.declared.Refusal.{Refusal}
-use Rattle.outer.specs.declared.Written.{Written}
-use Rattle.wire.proofs.Rows.{picked, row_stops, row_passes}
+use Rattle.wire.specs.declared.errors.Error.{Error}
+use Rattle.std.specs.Prelude.{Err}
+use Rattle.outer.specs.Outer.{Written}
+use Rattle.wire.proofs.Rows.{numbered, picked, row_stops, row_passes}
 use Rattle.outer.proofs.Writes.{write_stops, write_done}
 use Rattle.record.specs.Record.{encode_rows, encode_record}
 use Rattle.session.specs.Checks.{last_sequence, next_sequence}
@@ -71,7 +73,10 @@ module _ (t : ℕ) (i : Identity) (s count : ℕ) (p o : List ℕ) (at : ℕ) (n
         let f : passes (first rows) ≡ true = ap passes (sym first_rows) ∙ q.0 in
         simp f (λ j. outcome (record { refusal = ex j; count = count; next = q.1 j; sequence = (there h).1 j }) (q.2 j))
 
-pub ruleset encoding = (next_missing, next_refused, next_done)
+  pub next_error : (e : Error) (x : Refusal) (u : Encoded) (o2 : List ℕ) → n.refusal.number ≡ 0
+      → outer.outcome (outer.written (Err e)) o2 ≡ encode_record t i.instance_id i.epoch.0 s p o at → x ≡ refusal_of e → u ≡ not_encoded x s
+      → outcome u o2 ≡ encode_next t i s count p o at
+  next_error e x u o2 h ew ex eu = next_refused (outer.written (Err e)) o2 h ew u (numbered e) (eu ∙ ap (λ (r : Refusal). not_encoded r s) ex)
 
 pub data_is : (t : ℕ) (i : Identity) (s : ℕ) (bytes o o2 : List ℕ) (at n : ℕ) (u : Encoded) → t ≡ 5 → n ≡ min (length bytes) 65536
     → outcome u o2 ≡ encode_next t i s n (take (n - 0) (drop 0 bytes)) o at → outcome u o2 ≡ encode_data i s bytes o at

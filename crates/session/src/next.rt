@@ -38,7 +38,7 @@ fn encode_counted(
         return not_encoded(missing, sequence);
     }
     let instance_id = identity.instance_id;
-    let written = encode_record(
+    match encode_record(
         record_type,
         instance_id,
         identity.epoch,
@@ -46,16 +46,14 @@ fn encode_counted(
         payload,
         output,
         at,
-    );
-    let refusal = written.refusal;
-    if refusal.number != 0 {
-        return not_encoded(refusal, sequence);
-    }
-    Encoded {
-        refusal: Refusal::none(),
-        count,
-        next: written.next,
-        sequence: following,
+    ) {
+        Ok(next) => Encoded {
+            refusal: Refusal::none(),
+            count,
+            next,
+            sequence: following,
+        },
+        Err(error) => not_encoded(Refusal::from(error), sequence),
     }
 }
 

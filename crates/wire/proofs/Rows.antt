@@ -2,8 +2,11 @@
 use mathlib.Core.Path.{◌≡◌, refl, sym, ap, ◌∙◌}
 use mathlib.Core.Bool.{Bool, true, false, ◌&&◌}
 use mathlib.Core.List.{List, [], ◌∷◌, ◌++◌}
+use Rattle.std.specs.Prelude.{ℕ, eqb, Result, Ok, Err, is_ok}
 use borrow.Author.Tests.{eqb-false}
-use Rattle.wire.specs.Refusals.{pick, none, first, passes}
+use Rattle.wire.specs.Refusals.{pick, none, refusal_of, verdict, first, passes}
+use Rattle.wire.specs.declared.errors.Error.{Error}
+use Rattle.wire.specs.declared.errors.Error.TheVariants.{Magic, Version, «Type», Flags, Length, BootstrapIdentity, ErrorCode, ReceiveWindow, Credit, Unexpected, MissingIdentity, Instance, Epoch, StaleEpoch, Sequence, SequenceOverflow, Window, Uncovered, Truncated, InvalidState, ShortStage, ShortOutput, Unsound, OuterPayload, OuterHeader, OuterLength, AckPayload, CreditPayload, PayloadLength}
 use Rattle.wire.specs.declared.Refusal.{Refusal}
 
 -- every row's test holds
@@ -30,6 +33,11 @@ unfolding first
 pass_all [] p = refl
 pass_all (row ∷ rows) p = rw p.0 (pass_all rows p.1)
 
+pub none_stops : (rows : List (Bool × Refusal)) → Passed rows → none ≡ first rows
+unfolding first
+none_stops [] p = refl
+none_stops (row ∷ rows) p = rw p.0 (none_stops rows p.1)
+
 pub and_left : (a b : Bool) → a && b ≡ true → a ≡ true
 and_left true b e = refl
 and_left false b e = e
@@ -42,6 +50,10 @@ and_right false b e = cc
 pub picked : {A : Type 0} (P : A → Type 0) (t : Bool) {x y : A} → (t ≡ true → P x) → (t ≡ false → P y) → P (pick t x y)
 picked P true f g = f refl
 picked P false f g = g refl
+
+-- every error's refusal has a number
+pub refuses : (e : Error) → passes (refusal_of e) ≡ false
+refuses = elim [ Magic a ↦ refl | Version a ↦ refl | «Type» a ↦ refl | Flags a ↦ refl | Length a b ↦ refl | BootstrapIdentity a ↦ refl | ErrorCode a ↦ refl | ReceiveWindow a ↦ refl | Credit a ↦ refl | Unexpected a ↦ refl | MissingIdentity a ↦ refl | Instance a b ↦ refl | Epoch a b ↦ refl | StaleEpoch a b ↦ refl | Sequence a b ↦ refl | SequenceOverflow a ↦ refl | Window a b c ↦ refl | Uncovered a b ↦ refl | Truncated a ↦ refl | InvalidState ↦ refl | ShortStage ↦ refl | ShortOutput ↦ refl | Unsound ↦ refl | OuterPayload ↦ refl | OuterHeader ↦ refl | OuterLength ↦ refl | AckPayload ↦ refl | CreditPayload ↦ refl | PayloadLength ↦ refl ]
 
 -- ---- code that goes through rows
 -- a row's test fails, or holds and the rest decide
@@ -67,6 +79,13 @@ rows_stop (row ∷ front) back x e n = go row.0 refl e (rows_stop front back x)
     go true q p k = k p n
     go false q p k = p
 
+pub numbered : (e : Error) → (refusal_of e).number ≡ 0 → ⊥
+numbered e z = let k : true ≡ false = sym (ap (λ (n : ℕ). eqb n 0) z) ∙ refuses e in cc
+
+-- the same of a check's answer: an error stops the operation, and else the rest decide
+pub error_stops : (front back : List (Bool × Refusal)) (e : Error) → refusal_of e ≡ first front → refusal_of e ≡ first (front ++ back)
+error_stops front back e q = rows_stop front back (refusal_of e) q (numbered e)
+
 pub rows_pass : (front back : List (Bool × Refusal)) (x y : Refusal) → Numbered front → x ≡ first front → x.number ≡ 0 → y ≡ first back → y ≡ first (front ++ back)
 unfolding first
 rows_pass [] back x y m e n q = q
@@ -75,3 +94,18 @@ rows_pass (row ∷ front) back x y m e n q = go row.0 refl e (λ p. rows_pass fr
     go : (t : Bool) → row.0 ≡ t → x ≡ pick t (first front) row.1 → (x ≡ first front → y ≡ first (front ++ back)) → y ≡ pick t (first (front ++ back)) row.1
     go true h p k = k p
     go false h p k = absurd (eqb-false row.1.number 0 m.0 (ap (λ (r : Refusal). r.number) (sym p) ∙ n))
+
+pub check_passes : (front back : List (Bool × Refusal)) (y : Refusal) → Numbered front → none ≡ first front → y ≡ first back → y ≡ first (front ++ back)
+check_passes front back y m e q = rows_pass front back none y m e refl q
+
+-- a check of one row
+pub row_refuses : (t b : Bool) (r : Refusal) → b ≡ t → b ≡ false → r ≡ first ((t, r) ∷ [])
+row_refuses t b r eb e = row_stops t r r [] (sym eb ∙ e) refl
+
+pub row_accepts : (t b : Bool) (r : Refusal) → b ≡ t → b ≡ true → none ≡ first ((t, r) ∷ [])
+row_accepts t b r eb e = row_passes t r none [] (sym eb ∙ e) (no_rows none refl)
+
+-- whether a check passes
+pub ok_passes : (x : Result (Unit {0}) Error) → is_ok x ≡ passes (verdict x)
+ok_passes (Ok u) = refl
+ok_passes (Err e) = sym (refuses e)

@@ -1,8 +1,10 @@
-// What every layer uses: refusals, epochs and sequences, a header's 44 bytes read (`fields`) and
-// written (`header`), and bytes copied and cut (`copying`, `parts`).
+// What every layer uses: errors (`errors`) and 01's record of a refusal, epochs and sequences, a
+// header's 44 bytes read (`fields`) and written (`header`), and bytes copied and cut (`copying`,
+// `parts`).
 #![tactic(auto)]
 
 pub mod copying;
+pub mod errors;
 pub mod fields;
 pub mod header;
 pub mod parts;

@@ -1,9 +1,7 @@
--- `outer::payloads::value` meets its contract. The laws `valuing` have a case for four bytes, whose number `from_le_bytes` ensures (`number_4`), and one for any other length. Assumes nothing.
-use Rattle.outer.proofs.PayloadsCases.{valuing}
+-- `outer::payloads::value` meets its contract, by `value_of_number`. Assumes nothing.
+use Rattle.std.proofs.Common.{rules}
+use Rattle.outer.proofs.PayloadsCases.{value_of_number}
 use Rattle.outer.proofs.payloads.value.Goals as goal
 
-pub returns-then-payload-ne4 : goal.returns-then-payload-ne4
-returns-then-payload-ne4 c = search valuing
-
 pub returns : goal.returns
-returns c = search valuing
+returns c = search (rules, value_of_number)

@@ -1,9 +1,9 @@
--- `parser::push::finished` meets its contract. The laws `finishing` have a case for each return: the payload's refusal, and the record. They use that the type read from a header that passes has the header's code. Assumes nothing.
-use Rattle.parser.proofs.Cases.{finishing}
+-- `parser::push::finished` meets its contract: the record, or the refusal of its payload. The laws use that the type read from a header that passes has the header's code. Assumes nothing.
+use Rattle.parser.proofs.Cases.{finish_fails, finish_completes}
 use Rattle.parser.proofs.push.finished.Goals as goal
 
-pub returns-then-refusal-ne0 : goal.returns-then-refusal-ne0
-returns-then-refusal-ne0 c = search finishing
+pub returns-in-Ok : goal.returns-in-Ok
+returns-in-Ok c = finish_completes _ _ _ _ _ c.requires c.record_of.ensures _ c.in-Ok.ensures c.complete.ensures
 
-pub returns : goal.returns
-returns c = search finishing
+pub returns-in-Err : goal.returns-in-Err
+returns-in-Err c = finish_fails _ _ _ _ _ c.requires c.record_of.ensures _ _ _ c.in-Err.ensures c.from.ensures c.fail.ensures

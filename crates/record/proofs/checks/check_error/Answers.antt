@@ -1,11 +1,9 @@
--- `record::checks::check_error` meets its contract. A value that has no code gives 7, by `error_stops`; one that has a code passes, by `error_passes`. Assumes nothing.
-use Rattle.record.proofs.Cases.{error_stops, error_passes}
+-- `record::checks::check_error` meets its contract: a value with no code gives 7, by `error_other`. Assumes nothing.
+use Rattle.record.proofs.Cases.{error_other, error_known}
 use Rattle.record.proofs.checks.check_error.Goals as goal
 
--- a value that has no code gives 7
 pub returns-in_default : goal.returns-in_default
-returns-in_default c = search error_stops
+returns-in_default c = error_other _ _ c.from_code.ensures c.in_default.is
 
--- one that has a code passes
 pub returns : goal.returns
-returns c = search error_passes
+returns c = error_known _ _ _ c.from_code.ensures c.in-Some.is

@@ -1,9 +1,10 @@
--- `record::checks::check_length` meets its contract. A length that the type allows passes, by `checking`; any other gives 5, by `length_stops`. Assumes nothing.
-use Rattle.record.proofs.Cases.{checking, length_stops}
+-- `record::checks::check_length` meets its contract: a length that the type does not allow gives 5. Assumes nothing.
+use Rattle.wire.proofs.Rows.{row_accepts}
+use Rattle.record.proofs.Cases.{length_stops}
 use Rattle.record.proofs.checks.check_length.Goals as goal
 
-pub returns-then-allows_length : goal.returns-then-allows_length
-returns-then-allows_length c = search (checking, length_stops)
+pub returns-then-not-allows_length : goal.returns-then-not-allows_length
+returns-then-not-allows_length c = length_stops _ _ _ _ c.allows_length.ensures c.if-not-allows_length.true c.code.ensures
 
 pub returns : goal.returns
-returns c = search (checking, length_stops)
+returns c = row_accepts _ _ _ c.allows_length.ensures c.if-not-allows_length.false
