@@ -65,7 +65,7 @@ impl Link {
         );
         let rest = reply.get(data.consumed..).unwrap_or(&[]);
         self.parser = push::push(data.parser, rest, stage).parser;
-        written.next
+        written.unwrap_or(0)
     }
 
     // The host receives the echo.

@@ -8,11 +8,14 @@ use native.Mathlib.Omega.{arith}
 use lib.ListN.{length, take, drop, length-drop}
 use lib.Dec.{leb}
 use borrow.Author.Tests.{le-leb, lt-leb, lt-ltb, le-ltb, eq-eqb, ne_eqb, not-true, not-false}
-use Rattle.wire.specs.Refusals.{pick, refusal, none, first, passes}
+use Rattle.std.specs.Prelude.{Ok, Err}
+use Rattle.wire.specs.Refusals.{pick, refusal, none, refusal_of, first, passes}
+use Rattle.wire.specs.declared.errors.Error.{Error}
+use Rattle.wire.specs.declared.errors.Error.TheVariants as Errors
 use Rattle.outer.specs.Outer.{write}
 use Rattle.outer.specs.Outer as outer
 use Rattle.wire.specs.declared.Refusal.{Refusal}
-use Rattle.wire.proofs.Rows.{pass_all, row_stops, row_passes}
+use Rattle.wire.proofs.Rows.{refuses, pass_all, row_stops, row_passes}
 use Rattle.parser.specs.Push.{buffered_of}
 use Rattle.wire.proofs.PartLaws.{part_end, take_min}
 use Rattle.text.specs.Decimal.{placed}
@@ -227,44 +230,36 @@ pub ruleset listings = (list_23, list_21, list_22, list_error)
 
 -- ---- the ways out of `names` and `end`
 module _ (v : Refusal) (bytes o : List ℕ) where
-  write_not : (x : Refusal) → x ≡ v → (x.number ≡ 0 → ⊥) → outer.outcome (record { refusal = x; next = 0 }) o ≡ write v bytes o 0
+  write_not : (e : Error) → refusal_of e ≡ v → outer.outcome (outer.written (Err e)) o ≡ write v bytes o 0
   unfolding write
-  write_not x e n = simp (ap (λ (y : Refusal). passes y) (sym e) ∙ ne_eqb x.number 0 n) (ap (λ (y : Refusal). outer.outcome (record { refusal = y; next = 0 }) o) e)
+  write_not e q = rw (← q, refuses e) refl
 
-  write_put : (x : Refusal) (next : ℕ) (o2 : List ℕ) → passes v ≡ true → x ≡ none → 126 ≤ length o → placed next o2 ≡ put_text o 0 bytes → outer.outcome (record { refusal = x; next = next }) o2 ≡ write v bytes o 0
+  write_put : (next : ℕ) (o2 : List ℕ) → passes v ≡ true → 126 ≤ length o → placed next o2 ≡ put_text o 0 bytes → outer.outcome (outer.written (Ok next)) o2 ≡ write v bytes o 0
   unfolding write
-  write_put x next o2 f e h p =
+  write_put next o2 f h p =
       let q = text_puts o 0 bytes next o2 h p in
-      simp f (λ j. outer.outcome (record { refusal = e j; next = (q j).next }) (q j).output)
-
-not_0 : (n : ℕ) (x : Refusal) → x ≡ refusal n 0 0 0 → (n ≡ 0 → ⊥) → x.number ≡ 0 → ⊥
-not_0 n x e h z = h (sym (ap (λ (y : Refusal). y.number) e) ∙ z)
+      simp f (λ j. outer.outcome (outer.written (Ok (q j).next)) (q j).output)
 
 module _ (o : List ℕ) where
-  pub names_22 : (x : Refusal) → length o < 126 → x ≡ refusal 22 0 0 0 → outer.outcome (record { refusal = x; next = 0 }) o ≡ names_of o
-  names_22 x h e = write_not _ _ _ x (row_stops _ _ x _ (lt-leb 126 (length o) h) e) (not_0 22 x e (λ z. omega arith))
+  pub names_22 : length o < 126 → outer.outcome (outer.written (Err Errors.ShortOutput)) o ≡ names_of o
+  names_22 h = write_not _ _ _ Errors.ShortOutput (row_stops _ _ _ _ (lt-leb 126 (length o) h) refl)
 
-  pub names_put : (x : Refusal) (next : ℕ) (o2 : List ℕ) → 126 ≤ length o → x ≡ none → placed next o2 ≡ put_text o 0 names
-      → outer.outcome (record { refusal = x; next = next }) o2 ≡ names_of o
-  names_put x next o2 h e = write_put _ _ _ x next o2 (pass_all (room_row o ∷ []) (le-leb 126 (length o) h, tt)) e h
+  pub names_put : (next : ℕ) (o2 : List ℕ) → 126 ≤ length o → placed next o2 ≡ put_text o 0 names → outer.outcome (outer.written (Ok next)) o2 ≡ names_of o
+  names_put next o2 h = write_put _ _ _ next o2 (pass_all (room_row o ∷ []) (le-leb 126 (length o) h, tt)) h
 
   module _ (s : Listing) (b : Bool) (eb : b ≡ sound_listing s) where
-    pub end_23 : (x : Refusal) → not b ≡ true → x ≡ refusal 23 0 0 0
-        → outer.outcome (record { refusal = x; next = 0 }) o ≡ end_of s o
-    end_23 x n e = write_not _ _ _ x (row_stops _ _ x _ (sym eb ∙ not-true b n) e) (not_0 23 x e (λ z. omega arith))
+    pub end_23 : not b ≡ true → outer.outcome (outer.written (Err Errors.Unsound)) o ≡ end_of s o
+    end_23 n = write_not _ _ _ Errors.Unsound (row_stops _ _ _ _ (sym eb ∙ not-true b n) refl)
 
     module _ (n : not b ≡ false) where
-      pub end_22 : (x : Refusal) → length o < 126 → x ≡ refusal 22 0 0 0
-          → outer.outcome (record { refusal = x; next = 0 }) o ≡ end_of s o
-      end_22 x h e =
-          write_not _ _ _ x (row_passes _ _ x _ (sym eb ∙ not-false b n) (row_stops _ _ x _ (lt-leb 126 (length o) h) e)) (not_0 22 x e (λ z. omega arith))
+      pub end_22 : length o < 126 → outer.outcome (outer.written (Err Errors.ShortOutput)) o ≡ end_of s o
+      end_22 h = write_not _ _ _ Errors.ShortOutput (row_passes _ _ _ _ (sym eb ∙ not-false b n) (row_stops _ _ _ _ (lt-leb 126 (length o) h) refl))
 
-      pub end_put : (x : Refusal) (next k : ℕ) (o2 : List ℕ) → 126 ≤ length o → x ≡ none → k ≡ buffered_of s.parser
-          → placed next o2 ≡ put_text o 0 (ending s.offset s.parser.error.number k)
-          → outer.outcome (record { refusal = x; next = next }) o2 ≡ end_of s o
+      pub end_put : (next k : ℕ) (o2 : List ℕ) → 126 ≤ length o → k ≡ buffered_of s.parser → placed next o2 ≡ put_text o 0 (ending s.offset s.parser.error.number k)
+          → outer.outcome (outer.written (Ok next)) o2 ≡ end_of s o
       unfolding end_line
-      end_put x next k o2 h e ek p =
-          write_put _ _ _ x next o2 (pass_all (sound_row s ∷ room_row o ∷ []) (sym eb ∙ not-false b n, (le-leb 126 (length o) h, tt))) e h
+      end_put next k o2 h ek p =
+          write_put _ _ _ next o2 (pass_all (sound_row s ∷ room_row o ∷ []) (sym eb ∙ not-false b n, (le-leb 126 (length o) h, tt))) h
           (p ∙ ap (λ (j : ℕ). put_text o 0 (ending s.offset s.parser.error.number j)) ek)
 
 pub ruleset naming = (names_22, names_put)

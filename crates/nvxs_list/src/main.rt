@@ -127,10 +127,13 @@ fn read_all(input: Stdin, output: &mut [u8]) -> Listing
 
 fn main(rt: HostRuntime) {
     let mut output = [0u8; 65536];
-    let first = names(&mut output);
-    if flush(&output, first.next) {
+    let Ok(first) = names(&mut output) else {
+        return;
+    };
+    if flush(&output, first) {
         let listing = read_all(rt.stdin(), &mut output);
-        let last = listing.end(&mut output);
-        flush(&output, last.next);
+        if let Ok(last) = listing.end(&mut output) {
+            flush(&output, last);
+        }
     }
 }

@@ -6,19 +6,18 @@ use mathlib.Core.List.{List, ◌++◌}
 use native.Mathlib.Omega.{arith}
 use Rattle.std.specs.Prelude.{Ok, Err}
 use lib.ListN.{length, length-append}
-use lib.Dec.{eqb, leb}
-use borrow.Author.Tests.{le-leb, lt-leb, eq-eqb, ne_eqb, not-true, not-false}
-use Rattle.wire.specs.Bytes.{from_le, overlay, copied}
+use lib.Dec.{leb}
+use borrow.Author.Tests.{le-leb, lt-leb, not-true, not-false}
+use Rattle.wire.specs.Bytes.{overlay, copied}
 use Rattle.wire.specs.Refusals.{pick, refusal, none, first}
-use Rattle.wire.specs.Header.{magic, magic_of, version_of, type_of, flags_of, instance_of, epoch_of, sequence_of, length_of, header_bytes}
+use Rattle.wire.specs.Header.{type_of, instance_of, epoch_of, sequence_of, length_of, header_bytes}
 use Rattle.outer.specs.Outer.{Written, written, outcome, write, put_record, encode_outer}
 use Rattle.outer.specs.Outer.{header_of, outer_ok, decoded_header, decode_outer_header}
 use Rattle.wire.specs.declared.Epoch.{Epoch}
 use Rattle.wire.specs.declared.Sequence.{Sequence}
 use Rattle.outer.specs.declared.OuterHeader.{OuterHeader}
 use Rattle.wire.specs.declared.errors.Error.TheVariants as Error
-use Rattle.std.specs.Int.{w32, from_le_bytes}
-use Rattle.wire.proofs.Headers.{header_length, magic_read}
+use Rattle.wire.proofs.Headers.{header_length}
 use Rattle.wire.proofs.Overlays.{copied_fits, overlay_next, length_overlay}
 
 -- ---- a record written at a position
@@ -74,23 +73,6 @@ module _ (t : ℕ) (i : List ℕ) (e s : ℕ) (payload o : List ℕ) (at : ℕ) 
 pub ruleset encoding-outer = (outer_24, outer_put)
 
 -- ---- decode_outer_header
-module _ (h : List ℕ) (x y : ℕ) (ex : x ≡ magic_of h) (ey : y ≡ from_le_bytes w32 magic) where
-  pub wrong_magic : (x ≡ y → ⊥) → false ≡ outer_ok h
-  unfolding outer_ok
-  wrong_magic n = simp (ne_eqb (magic_of h) (from_le magic) (λ q. n (ex ∙ q ∙ sym (ey ∙ magic_read))))
-
-  module _ (q : x ≡ y) (v : ℕ) (ev : v ≡ version_of h) where
-    pub wrong_version : (v ≡ 1 → ⊥) → false ≡ outer_ok h
-    unfolding outer_ok
-    wrong_version n = simp (eq-eqb (magic_of h) (from_le magic) (sym ex ∙ q ∙ ey ∙ magic_read), ne_eqb (version_of h) 1 (λ p. n (ev ∙ p)))
-
-    pub right_version : (f : ℕ) → v ≡ 1 → f ≡ flags_of h → eqb f 0 ≡ outer_ok h
-    unfolding outer_ok
-    right_version f p ef =
-        simp (eq-eqb (magic_of h) (from_le magic) (sym ex ∙ q ∙ ey ∙ magic_read), eq-eqb (version_of h) 1 (sym ev ∙ p)) (ap (λ (k : ℕ). eqb k 0) ef)
-
-pub ruleset outer-tests = (wrong_magic, wrong_version, right_version)
-
 pub header_read : (h : List ℕ) (t : ℕ) (i : List ℕ) (e : Epoch) (s : Sequence) (n : ℕ)
     → t ≡ type_of h → i ≡ instance_of h → e.0 ≡ epoch_of h → s.0 ≡ sequence_of h → n ≡ length_of h
     → record { record_type = t; instance_id = i; epoch = e; sequence = s; length = n } ≡ header_of h

@@ -66,7 +66,7 @@ pub fn encode_outer(
 }
 
 // Whether the header is one of this version: its magic, version and flags.
-#[tactic(auto, unfolding(crate::specs::Outer::outer_ok))]
+#[tactic(auto, using(wire::proofs::Headers::magic_read), unfolding(crate::specs::Outer::outer_ok))]
 pub fn is_outer(header: &[u8; 44]) -> bool
     ensures { result ≡ outer_ok header.now }
 {

@@ -60,13 +60,11 @@ pub fn encode_ack_payload(window: u32) -> Result<[u8; 4], Error>
 pub fn decode_ack_payload(payload: &[u8]) -> Result<u32, Error>
     ensures { decoded result ≡ decode_ack_payload payload.now }
 {
-    let Some(window) = number(payload) else {
-        return Err(Error::PayloadLength);
-    };
-    if !window_ok(window) {
-        return Err(Error::AckPayload);
+    match number(payload) {
+        Some(window) if window_ok(window) => Ok(window),
+        Some(_) => Err(Error::AckPayload),
+        None => Err(Error::PayloadLength),
     }
-    Ok(window)
 }
 
 // Encodes the number of consumed bytes of a CREDIT record.
@@ -83,11 +81,9 @@ pub fn encode_credit_payload(bytes: u32) -> Result<[u8; 4], Error>
 pub fn decode_credit_payload(payload: &[u8]) -> Result<u32, Error>
     ensures { decoded result ≡ decode_credit_payload payload.now }
 {
-    let Some(bytes) = number(payload) else {
-        return Err(Error::PayloadLength);
-    };
-    if !credit_ok(bytes) {
-        return Err(Error::CreditPayload);
+    match number(payload) {
+        Some(bytes) if credit_ok(bytes) => Ok(bytes),
+        Some(_) => Err(Error::CreditPayload),
+        None => Err(Error::PayloadLength),
     }
-    Ok(bytes)
 }

@@ -8,12 +8,7 @@ use wire::{Epoch, Sequence};
 
 // What the decoder answers.
 fn decoded(header: [u8; 44]) -> Answer<Fields> {
-    let answer = decode_outer_header(header);
-    if answer.refusal.number == 0 {
-        Answer(Ok(Fields(answer.header)))
-    } else {
-        Answer(Err(answer.refusal))
-    }
+    Answer(decode_outer_header(header).map(Fields))
 }
 
 // One header's bytes, and its fields or the refusal.

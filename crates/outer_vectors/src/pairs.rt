@@ -1,29 +1,10 @@
 // The ack and credit payload pairs: the bytes and values, and refusals 27, 28 and 29.
 use crate::answer::Answer;
 use outer::payloads::{
-    DecodedPayload, EncodedPayload, decode_ack_payload, decode_credit_payload, encode_ack_payload,
-    encode_credit_payload,
+    decode_ack_payload, decode_credit_payload, encode_ack_payload, encode_credit_payload,
 };
 use print::Hex;
 use std::{fmt, io};
-
-// What an encoder answered.
-fn encoded(answer: EncodedPayload) -> Answer<Hex<[u8; 4]>> {
-    if answer.refusal.number == 0 {
-        Answer(Ok(Hex(answer.payload)))
-    } else {
-        Answer(Err(answer.refusal))
-    }
-}
-
-// What a decoder answered.
-fn decoded(answer: DecodedPayload) -> Answer<u32> {
-    if answer.refusal.number == 0 {
-        Answer(Ok(answer.value))
-    } else {
-        Answer(Err(answer.refusal))
-    }
-}
 
 // An encoder and its decoder.
 #[derive(Clone, Copy)]
@@ -43,14 +24,15 @@ impl fmt::Display for Pair {
 
 impl Pair {
     fn encode(self, value: u32) -> Answer<Hex<[u8; 4]>> {
-        encoded(match self {
+        let encoded = match self {
             Pair::Ack => encode_ack_payload(value),
             Pair::Credit => encode_credit_payload(value),
-        })
+        };
+        Answer(encoded.map(Hex))
     }
 
     fn decode(self, payload: &[u8]) -> Answer<u32> {
-        decoded(match self {
+        Answer(match self {
             Pair::Ack => decode_ack_payload(payload),
             Pair::Credit => decode_credit_payload(payload),
         })

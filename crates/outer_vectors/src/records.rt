@@ -1,9 +1,10 @@
 // encode_outer: the bytes it writes, and refusals 22 and 24.
 use crate::answer::Answer;
 use crate::headers::decode;
-use outer::{Written, encode_outer};
+use outer::encode_outer;
 use print::Hex;
 use std::{fmt, io};
+use wire::errors::Error;
 use wire::{Epoch, Sequence};
 
 // The position after a record.
@@ -17,12 +18,8 @@ impl fmt::Display for Next {
 }
 
 // What the encoder answered.
-fn written(answer: Written) -> Answer<Next> {
-    if answer.refusal.number == 0 {
-        Answer(Ok(Next(answer.next)))
-    } else {
-        Answer(Err(answer.refusal))
-    }
+fn written(answer: Result<usize, Error>) -> Answer<Next> {
+    Answer(answer.map(Next))
 }
 
 // M1: a RESET without payload, there and back.

@@ -1,11 +1,11 @@
 // What a call answered, at the end of a line.
-use outer::{OuterHeader, Written};
+use outer::OuterHeader;
 use parser::{Pushed, RecordParser, payload};
 use print::{Fields, Hex};
-use record::types::{ErrorCode, ErrorLookup};
-use record::{Record, Value};
+use record::Record;
 use std::fmt;
 use wire::Refusal;
+use wire::errors::Error;
 
 // A refusal's number and its first two figures.
 #[derive(Clone, Copy)]
@@ -19,23 +19,14 @@ impl fmt::Display for Refused {
 
 // The position after a record, or the refusal.
 #[derive(Clone, Copy)]
-pub struct Encoded(pub Result<usize, Refusal>);
+pub struct Encoded(pub Result<usize, Error>);
 
 impl fmt::Display for Encoded {
     fn fmt<W: fmt::Write>(&self, f: &mut fmt::Formatter<W>) -> fmt::Result {
         match self.0 {
             Ok(next) => write!(f, "next {next}"),
-            Err(refusal) => write!(f, "{}", Refused(refusal)),
+            Err(error) => write!(f, "{}", Refused(Refusal::from(error))),
         }
-    }
-}
-
-// What an encoder answered.
-pub fn written(answer: Written) -> Result<usize, Refusal> {
-    if answer.refusal.number == 0 {
-        Ok(answer.next)
-    } else {
-        Err(answer.refusal)
     }
 }
 
@@ -48,23 +39,6 @@ pub fn record_in(pushed: Pushed) -> Result<Option<Record>, Refusal> {
         return Ok(Some(pushed.record));
     }
     Ok(None)
-}
-
-// The number that a record holds, where it holds one.
-fn number(answer: Value) -> Option<u32> {
-    if answer.present {
-        Some(answer.value)
-    } else {
-        None
-    }
-}
-
-// The error code that a record holds, where it holds one.
-fn error_code(answer: ErrorLookup) -> Option<ErrorCode> {
-    match answer {
-        ErrorLookup::Known(code) => Some(code),
-        ErrorLookup::Unknown => None,
-    }
 }
 
 // How many bytes a parser still needs, and how many it holds.
@@ -92,13 +66,13 @@ impl<'a> fmt::Display for Complete<'a> {
         let record = self.record;
         let payload = self.payload;
         write!(f, "{}", Fields(header_of(record)))?;
-        if let Some(window) = number(record.window(payload)) {
+        if let Some(window) = record.window(payload) {
             write!(f, " window {window}")?;
         }
-        if let Some(credit) = number(record.credit(payload)) {
+        if let Some(credit) = record.credit(payload) {
             write!(f, " credit {credit}")?;
         }
-        if let Some(code) = error_code(record.error_code(payload)) {
+        if let Some(code) = record.error_code(payload) {
             write!(f, " error {}", code.code())?;
         }
         if !payload.is_empty() {

@@ -1,7 +1,7 @@
 // One record through the encoder and through a parser.
 ghost use Rattle.std.specs.Prelude.{◌≤◌};
 
-use crate::answers::{Answer, Counts, Encoded, record_in, written};
+use crate::answers::{Answer, Counts, Encoded, record_in};
 use outer::{OuterHeader, put_record};
 use parser::RecordParser;
 use parser::push::push;
@@ -10,7 +10,8 @@ use record::codec::encode_record;
 use record::types::RecordType;
 use std::{fmt, io};
 use wire::header::encode_header;
-use wire::{Epoch, Refusal, Sequence};
+use wire::errors::Error;
+use wire::{Epoch, Sequence};
 
 // A record to encode.
 #[derive(Clone, Copy)]
@@ -57,8 +58,8 @@ impl<'a> Case<'a> {
         }
     }
 
-    pub fn encode(self, output: &mut [u8], at: usize) -> Result<usize, Refusal> {
-        written(encode_record(
+    pub fn encode(self, output: &mut [u8], at: usize) -> Result<usize, Error> {
+        encode_record(
             self.record_type,
             self.instance_id,
             self.epoch,
@@ -66,11 +67,11 @@ impl<'a> Case<'a> {
             self.payload,
             output,
             at,
-        ))
+        )
     }
 
     // The record's bytes put together unchecked.
-    fn put(self, output: &mut [u8]) -> Result<usize, Refusal> {
+    fn put(self, output: &mut [u8]) -> Result<usize, Error> {
         let header = encode_header(
             self.record_type.code(),
             self.instance_id,
@@ -78,7 +79,7 @@ impl<'a> Case<'a> {
             self.sequence,
             u32::try_from(self.payload.len()).unwrap_or(u32::MAX),
         );
-        written(put_record(header, self.payload, output, 0))
+        put_record(header, self.payload, output, 0)
     }
 
     // The record to the encoder, then to a parser in pieces of `n` bytes. What the encoder refuses

@@ -8,6 +8,7 @@ use parser::{Place, RecordParser, payload};
 use session::Identity;
 use std::alloc::AllocError;
 use wire::Refusal;
+use wire::errors::Error;
 
 // Bytes of an answer's head.
 const HEAD: u32 = 128;
@@ -167,6 +168,12 @@ impl Answer {
         self.window.unwrap_or(0).append(out)?;
         self.credit.unwrap_or(0).append(out)?;
         self.error_code.unwrap_or(0).append(out)
+    }
+}
+
+impl From<Error> for Answer {
+    fn from(error: Error) -> Answer {
+        Answer::refused(Some(Refusal::from(error)))
     }
 }
 

@@ -1,10 +1,9 @@
 // The calls of the plain layer: operations 41 to 46. The record encoder has the same input.
 use crate::answer::Answer;
 use crate::frames::Frame;
-use crate::options::{payload_of, refusal_of};
-use outer::payloads::{DecodedPayload, EncodedPayload};
-use outer::{Written, decode_outer_header};
+use outer::decode_outer_header;
 use session::Identity;
+use wire::errors::Error;
 use wire::{Epoch, Sequence};
 
 // An encoder's input.
@@ -35,7 +34,7 @@ impl<'a> Fields<'a> {
 }
 
 // encode_outer; none of an input that is too short.
-pub fn encode_outer(f: Frame<'_>, output: &mut [u8]) -> Option<Written> {
+pub fn encode_outer(f: Frame<'_>, output: &mut [u8]) -> Option<Result<usize, Error>> {
     let x = Fields::of(f.input)?;
     Some(outer::encode_outer(
         x.record_type,
@@ -50,37 +49,39 @@ pub fn encode_outer(f: Frame<'_>, output: &mut [u8]) -> Option<Written> {
 
 // decode_outer_header; none of an input that has not 44 bytes.
 pub fn decode_header(input: &[u8]) -> Option<Answer> {
-    let decoded = decode_outer_header(<[u8; 44]>::try_from(input).ok()?);
-    let header = decoded.header;
-    Some(Answer {
-        refusal: refusal_of(decoded.refusal),
-        count: header.length as u64,
-        next: header.sequence.0,
-        identity: Some(Identity {
-            instance_id: header.instance_id,
-            epoch: header.epoch,
-        }),
-        record_type: header.record_type,
-        ..Answer::default()
+    Some(match decode_outer_header(<[u8; 44]>::try_from(input).ok()?) {
+        Ok(header) => Answer {
+            count: header.length as u64,
+            next: header.sequence.0,
+            identity: Some(Identity {
+                instance_id: header.instance_id,
+                epoch: header.epoch,
+            }),
+            record_type: header.record_type,
+            ..Answer::default()
+        },
+        Err(error) => Answer::from(error),
     })
 }
 
 // The answer of an encoder of four bytes: they are in place of the window.
-pub fn encoded(payload: EncodedPayload) -> Answer {
-    match payload_of(payload) {
+pub fn encoded(payload: Result<[u8; 4], Error>) -> Answer {
+    match payload {
         Ok(bytes) => Answer {
             window: Some(u32::from_le_bytes(bytes)),
             ..Answer::default()
         },
-        Err(refusal) => Answer::refused(Some(refusal)),
+        Err(error) => Answer::from(error),
     }
 }
 
 // The answer of a decoder of four bytes.
-pub fn decoded(payload: DecodedPayload) -> Answer {
-    Answer {
-        refusal: refusal_of(payload.refusal),
-        count: u64::from(payload.value),
-        ..Answer::default()
+pub fn decoded(payload: Result<u32, Error>) -> Answer {
+    match payload {
+        Ok(value) => Answer {
+            count: u64::from(value),
+            ..Answer::default()
+        },
+        Err(error) => Answer::from(error),
     }
 }

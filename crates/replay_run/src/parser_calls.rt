@@ -2,7 +2,7 @@
 use crate::answer::{Answer, Part, State, area};
 use crate::frames::{AREA, Frame};
 use crate::operations::ParserCall;
-use crate::options::{completed, error_of, refusal_of, value_of};
+use crate::options::{completed, refusal_of};
 use parser::{RecordParser, payload, push};
 use session::identity_in;
 
@@ -26,9 +26,9 @@ fn push(parser: &mut RecordParser, f: Frame<'_>, memory: &mut [u8]) -> Answer {
         count,
         next: record.sequence.0,
         identity: Some(identity_in(record)),
-        window: value_of(record.window(bytes)),
-        credit: value_of(record.credit(bytes)),
-        error_code: error_of(record.error_code(bytes)).map(|code| code.code()),
+        window: record.window(bytes),
+        credit: record.credit(bytes),
+        error_code: record.error_code(bytes).map(|code| code.code()),
         record_type: record.record_type.code(),
         payload: Part::Payload {
             place,

@@ -2,14 +2,17 @@
 use crate::answer::{Answer, Part};
 use crate::frames::{AREA, Frame, MEMORY};
 use crate::operations::PlainCall;
-use crate::options::refusal_of;
 use crate::outer_calls::{decode_header, decoded, encode_outer, encoded};
 use crate::record_calls::{encode_record, error_asks, type_asks};
-use outer::{Written, payloads};
+use outer::payloads;
+use wire::errors::Error;
 
 // The answer of an encoder.
-fn wrote(written: Written, at: usize) -> Answer {
-    Answer::wrote(refusal_of(written.refusal), written.next, at, 0)
+fn wrote(written: Result<usize, Error>, at: usize) -> Answer {
+    match written {
+        Ok(next) => Answer::wrote(None, next, at, 0),
+        Err(error) => Answer::from(error),
+    }
 }
 
 // A part of the memory, as the answer's payload.

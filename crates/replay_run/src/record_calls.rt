@@ -1,17 +1,16 @@
 // The calls of the record encoder, and what types and error codes answer: operations 40, 47, 48.
 use crate::answer::Answer;
 use crate::frames::Frame;
-use crate::options::{error_of, type_of};
 use crate::outer_calls::Fields;
-use outer::Written;
 use record::codec;
-use record::types::ErrorCode;
+use record::types::{ErrorCode, RecordType};
+use wire::errors::Error;
 
 // encode_record; none of an input that is too short, or of an unknown type.
-pub fn encode_record(f: Frame<'_>, output: &mut [u8]) -> Option<Written> {
+pub fn encode_record(f: Frame<'_>, output: &mut [u8]) -> Option<Result<usize, Error>> {
     let x = Fields::of(f.input)?;
     Some(codec::encode_record(
-        type_of(x.record_type)?,
+        RecordType::from_code(x.record_type)?,
         x.instance_id,
         x.epoch,
         x.sequence,
@@ -23,7 +22,7 @@ pub fn encode_record(f: Frame<'_>, output: &mut [u8]) -> Option<Written> {
 
 // What a type's code stands for, whether it is a bootstrap type and allows the length.
 pub fn type_asks(code: u8, length: usize) -> Option<Answer> {
-    let record_type = type_of(code)?;
+    let record_type = RecordType::from_code(code)?;
     Some(Answer {
         event: 1,
         count: u64::from(record_type.is_bootstrap()),
@@ -36,7 +35,7 @@ pub fn type_asks(code: u8, length: usize) -> Option<Answer> {
 // What an error code stands for.
 pub fn error_asks(code: u32) -> Answer {
     Answer {
-        error_code: error_of(ErrorCode::from_code(code)).map(|known| known.code()),
+        error_code: ErrorCode::from_code(code).map(|known| known.code()),
         ..Answer::default()
     }
 }

@@ -13,4 +13,4 @@ pub returns-then-output-lt-LINE : goal.returns-then-output-lt-LINE
 returns-then-output-lt-LINE c = search ends
 
 pub returns : goal.returns
-returns c = let s = c.args.self in let t = c.is_sound.ensures in end_put _ s c.is_sound.result t (ap not c.if-not-is_sound.false) _ _ _ _ c.if-output-lt-LINE.false c.none.ensures (count_is s _ c.buffered-buffered.ensures (sym t ∙ not-false _ (ap not c.if-not-is_sound.false))) c.put_ending-next.ensures
+returns c = let s = c.args.self in let t = c.is_sound.ensures in end_put _ s c.is_sound.result t (ap not c.if-not-is_sound.false) _ _ _ c.if-output-lt-LINE.false (count_is s _ c.buffered-buffered.ensures (sym t ∙ not-false _ (ap not c.if-not-is_sound.false))) c.put_ending.ensures
