@@ -11,7 +11,7 @@ pub(crate) fn attached_host(stage: &mut [u8]) -> HostSession {
     let mut output = [0u8; 76];
     let attached = host::attach(HostSession::new(), [7; 32], &mut output, 0);
     let mut ready = [0u8; 44];
-    encode_record(
+    let _ = encode_record(
         RecordType::Ready,
         INSTANCE,
         Epoch(EPOCH),

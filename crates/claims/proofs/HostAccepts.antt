@@ -19,7 +19,7 @@ use Rattle.record.specs.Types.{code_of, type_at}
 use Rattle.record.specs.Record.{header_checks, payload_checks, all_zero}
 use Rattle.record.specs.declared.types.RecordType.{RecordType}
 use Rattle.record.specs.declared.types.RecordType.TheVariants as Kind
-use Rattle.record.specs.declared.types.TypeLookup.TheVariants.{Known}
+use Rattle.std.specs.Prelude.{Some}
 use Rattle.record.specs.declared.Record.{Record}
 use Rattle.record.proofs.TypesCases.{code_type}
 use Rattle.parser.specs.Push.{Push, push, push_rows, push_head, push_body, finish, head_taken, body_taken, push_stage, held_in, head_with, payload_at, buffered_of}
@@ -136,7 +136,7 @@ leads_due (leads_data r y i c m) = is_data_lem i refl c m
 leads_due (leads_reset r y i c m l) = is_reset_lem i refl c m l
 
 same_kind : (t k : RecordType) → code_of t ≡ code_of k → t ≡ k
-same_kind t k e = let z : Known t ≡ Known k = sym (code_type t) ∙ ap type_at e ∙ code_type k in cc
+same_kind t k e = let z : Some t ≡ Some k = sym (code_type t) ∙ ap type_at e ∙ code_type k in cc
 
 -- a higher epoch of an identity's instance makes an identity
 still_identity : (i : Identity) (instance : List ℕ) (epoch : ℕ) → identity_ok i.instance_id i.epoch.0 ≡ true → instance ≡ i.instance_id → i.epoch.0 < epoch

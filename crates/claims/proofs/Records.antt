@@ -24,8 +24,7 @@ use Rattle.outer.proofs.RoundTrips.{fields_of, header_decodes}
 use Rattle.record.specs.Types.{code_of, type_at, type_ok, length_ok}
 use Rattle.record.specs.Record.{header_rows, header_checks, payload_rows, payload_checks, bootstrap_row, record_rows, record_bytes, record_of, record_with, type_from}
 use Rattle.record.specs.declared.types.RecordType.{RecordType}
-use Rattle.record.specs.declared.types.TypeLookup.{TypeLookup}
-use Rattle.record.specs.declared.types.TypeLookup.TheVariants.{Known, Unknown}
+use Rattle.std.specs.Prelude.{Option, Some, None}
 use Rattle.record.proofs.TypesCases.{known_code, unknown_code, code_low, code_type, length_limit}
 use Rattle.claims.specs.Reading.{record_from, encoded}
 use Rattle.claims.proofs.Scans.{whole, scan, scan_value, scan_body, scan_header, scan_cut}
@@ -57,9 +56,9 @@ checks_passed h e = passed (header_rows h) (refl, (refl, (refl, (refl, (refl, (r
 pub known_back : (n : ℕ) → type_ok n ≡ true → code_of (type_from (type_at n)) ≡ n
 known_back n ok = go (type_at n) refl
   where
-    go : (l : TypeLookup) → type_at n ≡ l → code_of (type_from l) ≡ n
-    go (Known t) e = known_code n t e
-    go Unknown e = let z : true ≡ false = sym ok ∙ unknown_code n e in cc
+    go : (l : Option RecordType) → type_at n ≡ l → code_of (type_from l) ≡ n
+    go (Some t) e = known_code n t e
+    go None e = let z : true ≡ false = sym ok ∙ unknown_code n e in cc
 
 module _ (h : List ℕ) (ok : passes (header_checks h) ≡ true) where
   pub length_low : length_of h ≤ 65536
@@ -168,7 +167,7 @@ module _ (t : RecordType) (i : List ℕ) (e s : ℕ) (y : List ℕ) (li : length
   unfolding record_with
   encoding_record =
       (λ j. record_from (type_from (type_at (type_read j))) (instance_read j) (epoch_read j) (sequence_read j) (length_read j))
-      ∙ ap (λ (l : TypeLookup). record_from (type_from l) i e s (length y)) (code_type t)
+      ∙ ap (λ (l : Option RecordType). record_from (type_from l) i e s (length y)) (code_type t)
 
   pub encoding_length : length (head ++ y) ≡ 44 + length y
   encoding_length = length-append head y ∙ ap (λ (n : ℕ). n + length y) (header_length (code_of t) i e s (length y) li)

@@ -42,12 +42,7 @@ fn write_attach(output: &mut [u8], at: usize) -> Result<usize, Error>
 
 // Writes ACK with sequence 0.
 #[tactic(auto, using(wire::proofs::NumberLaws::written))]
-fn write_ack(
-    identity: Identity,
-    window: u32,
-    output: &mut [u8],
-    at: usize,
-) -> Result<usize, Error>
+fn write_ack(identity: Identity, window: u32, output: &mut [u8], at: usize) -> Result<usize, Error>
     ensures { outer.outcome (outer.written result) output.new ≡ encode_record 4 identity.instance_id identity.epoch.0 0 (to_le 4 window) output.old at }
 {
     let payload = window.to_le_bytes();

@@ -58,11 +58,7 @@ fn record_sent(count: usize, next: usize, session: HostSession) -> Sent
 }
 
 // Writes HOST_ATTACH with the capability.
-fn write_attach(
-    capability: [u8; 32],
-    output: &mut [u8],
-    at: usize,
-) -> Result<usize, Error>
+fn write_attach(capability: [u8; 32], output: &mut [u8], at: usize) -> Result<usize, Error>
     ensures { outer.outcome (outer.written result) output.new ≡ encode_record 2 (replicate 16 0) 0 0 capability output.old at }
 {
     encode_record(

@@ -8,8 +8,8 @@ ghost use Rattle.std.specs.Prelude.{◌≡◌, ◌+◌, length};
 ghost use Rattle.outer.specs.Outer.{written, outcome, put_record, encode_outer, outer_ok, header_of, decoded_header, decode_outer_header};
 
 use wire::copying::copy_at;
-use wire::header::{OUTER_MAGIC, OUTER_VERSION, encode_header};
 use wire::errors::Error;
+use wire::header::{OUTER_MAGIC, OUTER_VERSION, encode_header};
 use wire::{Epoch, Sequence, fields};
 
 // Length of an outer record header.

@@ -164,6 +164,7 @@ data_tests h = go (eqb (magic_of h) (from_le magic)) (eqb (version_of h) 1) (eqb
     five true true = refl
     five true false = refl
     five false l = refl
+
     go : (m v t : Bool) → eqb (type_of h) 5 ≡ t
         → (m && (v && eqb (flags_of h) 0)) && (t && length_ok 5 (length_of h)) ≡ t && passes (pick m (pick v (pick (type_ok (type_of h)) (first (rest_rows (type_of h) h)) (refusal 3 (type_of h) 0 0)) (refusal 2 (version_of h) 0 0)) (refusal 1 (magic_of h) 0 0))
     go true true true e =

@@ -9,8 +9,8 @@ use crate::Record;
 use crate::checks::{check_bootstrap, check_length, check_payload};
 use crate::types::RecordType;
 use outer::put_record;
-use wire::header::encode_header;
 use wire::errors::Error;
+use wire::header::encode_header;
 use wire::{Epoch, Sequence, fields};
 
 // The fields of a header of a given type.

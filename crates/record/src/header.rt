@@ -7,10 +7,10 @@ ghost use Rattle.record.specs.Record.{rest_rows, header_checks};
 
 use crate::checks::{check_bootstrap, check_length};
 use crate::types::RecordType;
-use wire::header::{OUTER_MAGIC, OUTER_VERSION};
 use outer::is_outer;
 use wire::errors::Error;
 use wire::fields;
+use wire::header::{OUTER_MAGIC, OUTER_VERSION};
 
 // The checks that follow the type's: 4, 5, 6.
 fn check_rest(header: &[u8; 44], record_type: RecordType) -> Result<(), Error>
@@ -57,7 +57,7 @@ pub fn is_data(header: &[u8; 44]) -> bool
     ensures { result ≡ eqb (type_of header.now) 5 && passes (header_checks header.now) }
 {
     is_outer(header)
-        && fields::record_type(header) == 5
+        && fields::record_type(header) == RecordType::Data.code()
         && RecordType::Data.allows_length(fields::length(header) as usize)
 }
 

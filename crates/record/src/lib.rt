@@ -41,6 +41,7 @@ pub fn no_record() -> Record
 
 impl Record {
     // The window of an ACK record, none for another type.
+    #[tactic(auto, using(crate::proofs::Cases::not_ack), unfolding(crate::specs::Record::value_in))]
     pub fn window(self, payload: &[u8]) -> Option<u32>
         ensures { result ≡ window_in (code_of self.record_type) payload.now }
     {
@@ -51,6 +52,7 @@ impl Record {
     }
 
     // The number of bytes that a CREDIT record returns, none for another type.
+    #[tactic(auto, using(crate::proofs::Cases::not_credit), unfolding(crate::specs::Record::value_in))]
     pub fn credit(self, payload: &[u8]) -> Option<u32>
         ensures { result ≡ credit_in (code_of self.record_type) payload.now }
     {
@@ -61,6 +63,7 @@ impl Record {
     }
 
     // The code of an ERROR record, none for another type.
+    #[tactic(auto, using(crate::proofs::Cases::not_error), unfolding(crate::specs::Record::error_in))]
     pub fn error_code(self, payload: &[u8]) -> Option<ErrorCode>
         ensures { result ≡ error_in (code_of self.record_type) payload.now }
     {

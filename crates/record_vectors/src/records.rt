@@ -9,8 +9,8 @@ use print::{Fields, Hex};
 use record::codec::encode_record;
 use record::types::RecordType;
 use std::{fmt, io};
-use wire::header::encode_header;
 use wire::errors::Error;
+use wire::header::encode_header;
 use wire::{Epoch, Sequence};
 
 // A record to encode.

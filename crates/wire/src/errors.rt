@@ -12,21 +12,45 @@ pub enum Error {
     Version(u16),
     Type(u8),
     Flags(u8),
-    Length { record_type: u8, length: usize },
+    Length {
+        record_type: u8,
+        length: usize,
+    },
     BootstrapIdentity(u8),
     ErrorCode(u32),
     ReceiveWindow(u32),
     Credit(u32),
     Unexpected(u8),
     MissingIdentity(u8),
-    Instance { expected: [u8; 16], actual: [u8; 16] },
-    Epoch { expected: u64, actual: u64 },
-    StaleEpoch { current: u64, actual: u64 },
-    Sequence { expected: u64, actual: u64 },
+    Instance {
+        expected: [u8; 16],
+        actual: [u8; 16],
+    },
+    Epoch {
+        expected: u64,
+        actual: u64,
+    },
+    StaleEpoch {
+        current: u64,
+        actual: u64,
+    },
+    Sequence {
+        expected: u64,
+        actual: u64,
+    },
     SequenceOverflow(u8),
-    Window { window: u32, outstanding: u32, length: usize },
-    Uncovered { outstanding: u32, bytes: u32 },
-    Truncated { buffered: usize },
+    Window {
+        window: u32,
+        outstanding: u32,
+        length: usize,
+    },
+    Uncovered {
+        outstanding: u32,
+        bytes: u32,
+    },
+    Truncated {
+        buffered: usize,
+    },
     InvalidState,
     ShortStage,
     ShortOutput,
@@ -48,9 +72,10 @@ impl From<Error> for Refusal {
             Error::Version(version) => Refusal::new(2, version as u64, 0, 0),
             Error::Type(code) => Refusal::new(3, code as u64, 0, 0),
             Error::Flags(flags) => Refusal::new(4, flags as u64, 0, 0),
-            Error::Length { record_type, length } => {
-                Refusal::new(5, record_type as u64, length as u64, 0)
-            }
+            Error::Length {
+                record_type,
+                length,
+            } => { Refusal::new(5, record_type as u64, length as u64, 0) }
             Error::BootstrapIdentity(code) => Refusal::new(6, code as u64, 0, 0),
             Error::ErrorCode(value) => Refusal::new(7, value as u64, 0, 0),
             Error::ReceiveWindow(window) => Refusal::new(8, window as u64, 0, 0),

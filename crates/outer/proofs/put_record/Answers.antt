@@ -7,8 +7,8 @@ use Rattle.outer.proofs.put_record.Goals.{then-room-lt-OUTER_HEADER_LEN-via-then
 pub returns-then-room-lt-OUTER_HEADER_LEN : goal.returns-then-room-lt-OUTER_HEADER_LEN
 returns-then-room-lt-OUTER_HEADER_LEN c =
     elim c.then-room-lt-OUTER_HEADER_LEN.branch [
-      then-room-lt-OUTER_HEADER_LEN-via-then-room-lt-OUTER_HEADER_LEN w ↦ put_short _ _ _ _ _ (search rules) c.saturating_sub-room.ensures w.if-room-lt-OUTER_HEADER_LEN.true
-    | then-room-lt-OUTER_HEADER_LEN-via-else-room-lt-OUTER_HEADER_LEN+then-room-payload w ↦ put_shorter _ _ _ _ _ (search rules) c.saturating_sub-room.ensures w.if-room-lt-OUTER_HEADER_LEN.false w.if-room-payload.true
+      | then-room-lt-OUTER_HEADER_LEN-via-then-room-lt-OUTER_HEADER_LEN w ↦ put_short _ _ _ _ _ (search rules) c.saturating_sub-room.ensures w.if-room-lt-OUTER_HEADER_LEN.true
+      | then-room-lt-OUTER_HEADER_LEN-via-else-room-lt-OUTER_HEADER_LEN+then-room-payload w ↦ put_shorter _ _ _ _ _ (search rules) c.saturating_sub-room.ensures w.if-room-lt-OUTER_HEADER_LEN.false w.if-room-payload.true
     ]
 
 pub returns : goal.returns

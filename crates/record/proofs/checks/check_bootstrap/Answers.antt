@@ -13,6 +13,6 @@ pub returns : goal.returns
 returns c =
     let a = c.args in
     elim c.else-is_bootstrap.branch [
-      else-is_bootstrap-via-then-is_bootstrap+else-not-zero_identity w ↦ bootstrap_zero (code_of a.record_type) a.instance_id a.epoch.0 a.sequence.0 _ c.is_bootstrap.ensures _ w.if-is_bootstrap.true w.zero_identity.ensures w.if-not-zero_identity.false
-    | else-is_bootstrap-via-else-is_bootstrap w ↦ not_bootstrap (code_of a.record_type) a.instance_id a.epoch.0 a.sequence.0 _ c.is_bootstrap.ensures w.if-is_bootstrap.false
+      | else-is_bootstrap-via-then-is_bootstrap+else-not-zero_identity w ↦ bootstrap_zero (code_of a.record_type) a.instance_id a.epoch.0 a.sequence.0 _ c.is_bootstrap.ensures _ w.if-is_bootstrap.true w.zero_identity.ensures w.if-not-zero_identity.false
+      | else-is_bootstrap-via-else-is_bootstrap w ↦ not_bootstrap (code_of a.record_type) a.instance_id a.epoch.0 a.sequence.0 _ c.is_bootstrap.ensures w.if-is_bootstrap.false
     ]
