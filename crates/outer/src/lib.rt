@@ -4,7 +4,7 @@
 
 pub mod payloads;
 
-ghost use Rattle.std.specs.Prelude.{◌≡◌, ◌+◌, length};
+ghost use Rattle.std.specs.Prelude.{◌≡◌};
 ghost use Rattle.outer.specs.Outer.{written, outcome, put_record, encode_outer, outer_ok, header_of, decoded_header, decode_outer_header};
 
 use wire::copying::copy_at;

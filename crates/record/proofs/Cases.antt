@@ -8,26 +8,26 @@ use lib.ListN.{length, length-append}
 use lib.Dec.{eqb}
 use borrow.Author.Tests.{eq-eqb, ne_eqb, eqb-true}
 use Rattle.wire.specs.Bytes.{from_le}
-use Rattle.wire.specs.Refusals.{pick, refusal, none, refusal_of, first, passes}
+use Rattle.wire.specs.Refusals.{pick, refusal, none, record_refusal, first, passes}
 use Rattle.wire.specs.Header.{magic, magic_of, version_of, type_of, flags_of, instance_of, epoch_of, sequence_of, length_of, header_bytes}
 use Rattle.outer.specs.Outer.{window_ok, credit_ok, outer_ok, value_of, Written, written, outcome, write, room_row, put_record}
 use Rattle.wire.specs.declared.Epoch.{Epoch}
 use Rattle.wire.specs.declared.Sequence.{Sequence}
 use Rattle.wire.specs.declared.Refusal.{Refusal}
-use Rattle.wire.specs.declared.errors.Error as Errors
+use Rattle.wire.specs.declared.errors.RecordError.{RecordError}
+use Rattle.wire.specs.declared.errors.Error.TheVariants as Errors
 use lib.Pointwise.{pointwise}
 use Rattle.std.specs.Prelude.{replicate}
-use Rattle.wire.proofs.Rows.{and_right, none_stops, picked, refuses, passed, no_rows, row_stops, row_passes, error_stops, check_passes}
+use Rattle.wire.proofs.Rows.{and_right, none_stops, picked, record_refuses, passed, no_rows, row_stops, row_passes, error_stops, check_passes}
 use Rattle.std.specs.Int.{w32, from_le_bytes}
 use Rattle.wire.proofs.Headers.{header_length, magic_read}
 use Rattle.record.specs.Types.{code_of, type_at, type_ok, bootstrap, length_ok, error_at}
 use Rattle.record.proofs.TypesCases.{known_code, code_low, unknown_code, length_limit}
-use Rattle.record.specs.Record.{header_rows, all_zero, length_row, bootstrap_row, payload_rows, payload_checks, rest_rows, header_checks, type_from, record_with, record_of}
+use Rattle.record.specs.Record.{header_rows, all_zero, length_row, bootstrap_row, payload_rows, payload_checks, rest_rows, header_checks, record_with}
 use Rattle.record.specs.Record.{record_rows, encode_rows, record_bytes, encode_record, value_in, error_in}
 use Rattle.record.specs.declared.types.RecordType.{RecordType}
 use Rattle.record.specs.declared.types.RecordType.TheVariants.{GuestAttach, HostAttach, Reset, Ack, Data, Wait, Ready, Error, Credit}
 use Rattle.record.specs.declared.types.ErrorCode.{ErrorCode}
-use Rattle.record.specs.declared.Record.{Record}
 
 -- ---- checks
 -- sixteen zeros byte by byte
@@ -97,12 +97,6 @@ unfolding record_with
 record_read h t i e s n ei ee es en =
     λ j. record { record_type = t; instance_id = ei j; epoch = record { 0 = ee j }; sequence = record { 0 = es j }; length = en j }
 
-pub record_known : (h : List ℕ) (n : ℕ) (l : Option RecordType) (t : RecordType) (r : Record) → n ≡ type_of h → l ≡ type_at n → l ≡ Some t → r ≡ record_with t h → r ≡ record_of h
-record_known h n l t r en el ek er = er ∙ ap (λ (k : Option RecordType). record_with (type_from k) h) (sym ek ∙ el ∙ ap type_at en)
-
-pub record_unknown : (h : List ℕ) (n : ℕ) (l : Option RecordType) (r : Record) → n ≡ type_of h → l ≡ type_at n → l ≡ None → r ≡ record_with GuestAttach h → r ≡ record_of h
-record_unknown h n l r en el ek er = er ∙ ap (λ (k : Option RecordType). record_with (type_from k) h) (sym ek ∙ el ∙ ap type_at en)
-
 module _ (t : ℕ) (h : List ℕ) (f : ℕ) (ef : f ≡ flags_of h) where
   pub rest_flags : (f ≡ 0 → ⊥) → refusal 4 f 0 0 ≡ first (rest_rows t h)
   rest_flags n = row_stops _ _ _ _ (ne_eqb (flags_of h) 0 (λ p. n (ef ∙ p))) (ap (λ (j : ℕ). refusal 4 j 0 0) ef)
@@ -111,9 +105,9 @@ module _ (t : ℕ) (h : List ℕ) (f : ℕ) (ef : f ≡ flags_of h) where
     flags_pass : eqb (flags_of h) 0 ≡ true
     flags_pass = eq-eqb (flags_of h) 0 (sym ef ∙ z)
 
-    pub rest_length : (e : Errors.Error) → refusal_of e ≡ first (length_row t n ∷ []) → refusal_of e ≡ first (rest_rows t h)
+    pub rest_length : (e : RecordError) → record_refusal e ≡ first (length_row t n ∷ []) → record_refusal e ≡ first (rest_rows t h)
     rest_length e q =
-        row_passes _ _ _ _ flags_pass (error_stops (length_row t (length_of h) ∷ []) _ e (q ∙ ap (λ (k : ℕ). first (length_row t k ∷ [])) en))
+        row_passes _ _ _ _ flags_pass (error_stops (length_row t (length_of h) ∷ []) _ (Errors.Record e) (q ∙ ap (λ (k : ℕ). first (length_row t k ∷ [])) en))
 
     pub rest_bootstrap : (i : List ℕ) (e s : ℕ) (y : Refusal) → none ≡ first (length_row t n ∷ []) → i ≡ instance_of h → e ≡ epoch_of h → s ≡ sequence_of h
         → y ≡ first (bootstrap_row t i e s ∷ []) → y ≡ first (rest_rows t h)
@@ -197,13 +191,13 @@ data_passes h b eb t =
 
 -- ---- the encoder
 module _ (t : ℕ) (i : List ℕ) (e s : ℕ) (p : List ℕ) where
-  pub record_length : (x : Errors.Error) → refusal_of x ≡ first (length_row t (length p) ∷ []) → refusal_of x ≡ first (record_rows t i e s p)
-  record_length x q = error_stops (length_row t (length p) ∷ []) _ x q
+  pub record_length : (x : RecordError) → record_refusal x ≡ first (length_row t (length p) ∷ []) → record_refusal x ≡ first (record_rows t i e s p)
+  record_length x q = error_stops (length_row t (length p) ∷ []) _ (Errors.Record x) q
 
   module _ (fits : none ≡ first (length_row t (length p) ∷ [])) where
-    pub record_bootstrap : (x : Errors.Error) → refusal_of x ≡ first (bootstrap_row t i e s ∷ []) → refusal_of x ≡ first (record_rows t i e s p)
+    pub record_bootstrap : (x : RecordError) → record_refusal x ≡ first (bootstrap_row t i e s ∷ []) → record_refusal x ≡ first (record_rows t i e s p)
     record_bootstrap x q =
-        check_passes (length_row t (length p) ∷ []) _ (refusal_of x) (refl, tt) fits (error_stops (bootstrap_row t i e s ∷ []) (payload_rows t p) x q)
+        check_passes (length_row t (length p) ∷ []) _ (record_refusal x) (refl, tt) fits (error_stops (bootstrap_row t i e s ∷ []) (payload_rows t p) (Errors.Record x) q)
 
     pub record_payload : (y : Refusal) → none ≡ first (bootstrap_row t i e s ∷ []) → y ≡ payload_checks t p → y ≡ first (record_rows t i e s p)
     unfolding payload_checks
@@ -216,11 +210,11 @@ length_fits t i e s p q =
     length_limit t (length p) (passed (record_rows t i e s p) (refl, (refl, (refl, (refl, (refl, tt))))) (ap passes (sym q))).0
 
 module _ (t : ℕ) (i : List ℕ) (e s : ℕ) (p o : List ℕ) (at : ℕ) where
-  pub encode_stops : (x : Errors.Error) → refusal_of x ≡ first (record_rows t i e s p) → outcome (written (Err x)) o ≡ encode_record t i e s p o at
+  pub encode_stops : (x : RecordError) → record_refusal x ≡ first (record_rows t i e s p) → outcome (written (Err (Errors.Record x))) o ≡ encode_record t i e s p o at
   unfolding encode_record write
   encode_stops x q =
-      let k : refusal_of x ≡ first (encode_rows t i e s p o at) = error_stops (record_rows t i e s p) (room_row o at (44 + length p) ∷ []) x q in
-      rw (← k, refuses x) refl
+      let k : record_refusal x ≡ first (encode_rows t i e s p o at) = error_stops (record_rows t i e s p) (room_row o at (44 + length p) ∷ []) (Errors.Record x) q in
+      rw (← k, record_refuses x) refl
 
   pub encode_put : (k : ℕ) (header o2 : List ℕ) (w : Written) → none ≡ first (record_rows t i e s p) → length i ≡ 16 → k ≡ t → header ≡ header_bytes k i e s (length p)
       → outcome w o2 ≡ put_record header p o at → outcome w o2 ≡ encode_record t i e s p o at

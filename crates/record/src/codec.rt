@@ -1,6 +1,6 @@
 // A record read from its header, and the encoder.
 ghost use Rattle.std.specs.Prelude.{◌≡◌};
-ghost use Rattle.wire.specs.Refusals.{verdict, first};
+ghost use Rattle.wire.specs.Refusals.{checked, first};
 ghost use Rattle.outer.specs.Outer.{written, outcome};
 ghost use Rattle.record.specs.Types.{code_of};
 ghost use Rattle.record.specs.Record.{record_rows, record_with, record_of, encode_record};
@@ -9,7 +9,7 @@ use crate::Record;
 use crate::checks::{check_bootstrap, check_length, check_payload};
 use crate::types::RecordType;
 use outer::put_record;
-use wire::errors::Error;
+use wire::errors::{Error, RecordError};
 use wire::header::encode_header;
 use wire::{Epoch, Sequence, fields};
 
@@ -26,7 +26,8 @@ fn record_with(header: &[u8; 44], record_type: RecordType) -> Record
     }
 }
 
-// The fields of a header's bytes.
+// The fields of a header's bytes. It stays out of line, so that its callers move a header as one block.
+#[inline(never)]
 pub fn record_of(header: &[u8; 44]) -> Record
     ensures { result ≡ record_of header.now }
 {
@@ -41,8 +42,8 @@ fn check_record(
     epoch: Epoch,
     sequence: Sequence,
     payload: &[u8],
-) -> Result<(), Error>
-    ensures { verdict result ≡ first (record_rows (code_of record_type) instance_id epoch.0 sequence.0 payload.now) }
+) -> Result<(), RecordError>
+    ensures { checked result ≡ first (record_rows (code_of record_type) instance_id epoch.0 sequence.0 payload.now) }
 {
     check_length(record_type, payload.len())?;
     check_bootstrap(record_type, instance_id, epoch, sequence)?;

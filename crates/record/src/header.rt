@@ -1,6 +1,6 @@
 // The checks of a record's header (01, 1 to 6), whole and as short tests.
 ghost use Rattle.std.specs.Prelude.{◌≡◌, ◌&&◌, eqb};
-ghost use Rattle.wire.specs.Refusals.{verdict, first, passes};
+ghost use Rattle.wire.specs.Refusals.{checked, first, passes};
 ghost use Rattle.wire.specs.Header.{type_of};
 ghost use Rattle.record.specs.Types.{code_of};
 ghost use Rattle.record.specs.Record.{rest_rows, header_checks};
@@ -8,17 +8,17 @@ ghost use Rattle.record.specs.Record.{rest_rows, header_checks};
 use crate::checks::{check_bootstrap, check_length};
 use crate::types::RecordType;
 use outer::is_outer;
-use wire::errors::Error;
+use wire::errors::RecordError;
 use wire::fields;
 use wire::header::{OUTER_MAGIC, OUTER_VERSION};
 
 // The checks that follow the type's: 4, 5, 6.
-fn check_rest(header: &[u8; 44], record_type: RecordType) -> Result<(), Error>
-    ensures { verdict result ≡ first (rest_rows (code_of record_type) header.now) }
+fn check_rest(header: &[u8; 44], record_type: RecordType) -> Result<(), RecordError>
+    ensures { checked result ≡ first (rest_rows (code_of record_type) header.now) }
 {
     let flags = fields::flags(header);
     if flags != 0 {
-        return Err(Error::Flags(flags));
+        return Err(RecordError::Flags(flags));
     }
     check_length(record_type, fields::length(header) as usize)?;
     check_bootstrap(
@@ -31,23 +31,23 @@ fn check_rest(header: &[u8; 44], record_type: RecordType) -> Result<(), Error>
 
 // The header checks, 1 to 6. DATA, the most frequent type, is tested first. An unknown code leaves
 // with 3 before the flags are read.
-pub fn check_header(header: &[u8; 44]) -> Result<(), Error>
-    ensures { verdict result ≡ header_checks header.now }
+pub fn check_header(header: &[u8; 44]) -> Result<(), RecordError>
+    ensures { checked result ≡ header_checks header.now }
 {
     if is_data(header) {
         return Ok(());
     }
     let magic = fields::magic(header);
     if magic != u32::from_le_bytes(OUTER_MAGIC) {
-        return Err(Error::Magic(magic));
+        return Err(RecordError::Magic(magic));
     }
     let version = fields::version(header);
     if version != OUTER_VERSION {
-        return Err(Error::Version(version));
+        return Err(RecordError::Version(version));
     }
     let code = fields::record_type(header);
     let Some(record_type) = RecordType::from_code(code) else {
-        return Err(Error::Type(code));
+        return Err(RecordError::Type(code));
     };
     check_rest(header, record_type)
 }

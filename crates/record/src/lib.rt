@@ -26,7 +26,7 @@ pub struct Record {
     pub length: usize,
 }
 
-// No record: what an answer without one holds.
+// No record: the first type and zeros, what the rules have where there is none.
 pub fn no_record() -> Record
     ensures { result ≡ no_record }
 {

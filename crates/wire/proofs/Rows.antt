@@ -4,9 +4,11 @@ use mathlib.Core.Bool.{Bool, true, false, ◌&&◌}
 use mathlib.Core.List.{List, [], ◌∷◌, ◌++◌}
 use Rattle.std.specs.Prelude.{ℕ, eqb, Result, Ok, Err, is_ok}
 use borrow.Author.Tests.{eqb-false}
-use Rattle.wire.specs.Refusals.{pick, none, refusal_of, verdict, first, passes}
+use Rattle.wire.specs.Refusals.{pick, none, record_refusal, refusal_of, checked, first, passes}
+use Rattle.wire.specs.declared.errors.RecordError.{RecordError}
+use Rattle.wire.specs.declared.errors.RecordError.TheVariants.{Magic, Version, «Type», Flags, Length, BootstrapIdentity, ErrorCode, ReceiveWindow, Credit}
 use Rattle.wire.specs.declared.errors.Error.{Error}
-use Rattle.wire.specs.declared.errors.Error.TheVariants.{Magic, Version, «Type», Flags, Length, BootstrapIdentity, ErrorCode, ReceiveWindow, Credit, Unexpected, MissingIdentity, Instance, Epoch, StaleEpoch, Sequence, SequenceOverflow, Window, Uncovered, Truncated, InvalidState, ShortStage, ShortOutput, Unsound, OuterPayload, OuterHeader, OuterLength, AckPayload, CreditPayload, PayloadLength}
+use Rattle.wire.specs.declared.errors.Error.TheVariants.{«Record», Unexpected, MissingIdentity, Instance, Epoch, StaleEpoch, Sequence, SequenceOverflow, Window, Uncovered, Truncated, InvalidState, ShortStage, ShortOutput, Unsound, OuterPayload, OuterHeader, OuterLength, AckPayload, CreditPayload, PayloadLength}
 use Rattle.wire.specs.declared.Refusal.{Refusal}
 
 -- every row's test holds
@@ -52,8 +54,11 @@ picked P true f g = f refl
 picked P false f g = g refl
 
 -- every error's refusal has a number
+pub record_refuses : (e : RecordError) → passes (record_refusal e) ≡ false
+record_refuses = elim [ Magic a ↦ refl | Version a ↦ refl | «Type» a ↦ refl | Flags a ↦ refl | Length a b ↦ refl | BootstrapIdentity a ↦ refl | ErrorCode a ↦ refl | ReceiveWindow a ↦ refl | Credit a ↦ refl ]
+
 pub refuses : (e : Error) → passes (refusal_of e) ≡ false
-refuses = elim [ Magic a ↦ refl | Version a ↦ refl | «Type» a ↦ refl | Flags a ↦ refl | Length a b ↦ refl | BootstrapIdentity a ↦ refl | ErrorCode a ↦ refl | ReceiveWindow a ↦ refl | Credit a ↦ refl | Unexpected a ↦ refl | MissingIdentity a ↦ refl | Instance a b ↦ refl | Epoch a b ↦ refl | StaleEpoch a b ↦ refl | Sequence a b ↦ refl | SequenceOverflow a ↦ refl | Window a b c ↦ refl | Uncovered a b ↦ refl | Truncated a ↦ refl | InvalidState ↦ refl | ShortStage ↦ refl | ShortOutput ↦ refl | Unsound ↦ refl | OuterPayload ↦ refl | OuterHeader ↦ refl | OuterLength ↦ refl | AckPayload ↦ refl | CreditPayload ↦ refl | PayloadLength ↦ refl ]
+refuses = elim [ «Record» e ↦ record_refuses e | Unexpected a ↦ refl | MissingIdentity a ↦ refl | Instance a b ↦ refl | Epoch a b ↦ refl | StaleEpoch a b ↦ refl | Sequence a b ↦ refl | SequenceOverflow a ↦ refl | Window a b c ↦ refl | Uncovered a b ↦ refl | Truncated a ↦ refl | InvalidState ↦ refl | ShortStage ↦ refl | ShortOutput ↦ refl | Unsound ↦ refl | OuterPayload ↦ refl | OuterHeader ↦ refl | OuterLength ↦ refl | AckPayload ↦ refl | CreditPayload ↦ refl | PayloadLength ↦ refl ]
 
 -- ---- code that goes through rows
 -- a row's test fails, or holds and the rest decide
@@ -106,6 +111,6 @@ pub row_accepts : (t b : Bool) (r : Refusal) → b ≡ t → b ≡ true → none
 row_accepts t b r eb e = row_passes t r none [] (sym eb ∙ e) (no_rows none refl)
 
 -- whether a check passes
-pub ok_passes : (x : Result (Unit {0}) Error) → is_ok x ≡ passes (verdict x)
+pub ok_passes : (x : Result (Unit {0}) RecordError) → is_ok x ≡ passes (checked x)
 ok_passes (Ok u) = refl
-ok_passes (Err e) = sym (refuses e)
+ok_passes (Err e) = sym (record_refuses e)

@@ -1,7 +1,9 @@
 -- Refusals, and 01's "the first that applies".
-use Rattle.std.specs.Prelude.{ℕ, Bool, true, false, List, [], ◌∷◌, replicate, eqb, Result, Ok, Err}
+use Rattle.std.specs.Prelude.{ℕ, Bool, true, false, List, [], ◌∷◌, replicate, eqb, Option, Some, None, Result, Ok, Err}
+use Rattle.wire.specs.declared.errors.RecordError.{RecordError}
+use Rattle.wire.specs.declared.errors.RecordError.TheVariants.{Magic, Version, «Type», Flags, Length, BootstrapIdentity, ErrorCode, ReceiveWindow, Credit}
 use Rattle.wire.specs.declared.errors.Error.{Error}
-use Rattle.wire.specs.declared.errors.Error.TheVariants.{Magic, Version, «Type», Flags, Length, BootstrapIdentity, ErrorCode, ReceiveWindow, Credit, Unexpected, MissingIdentity, Instance, Epoch, StaleEpoch, Sequence, SequenceOverflow, Window, Uncovered, Truncated, InvalidState, ShortStage, ShortOutput, Unsound, OuterPayload, OuterHeader, OuterLength, AckPayload, CreditPayload, PayloadLength}
+use Rattle.wire.specs.declared.errors.Error.TheVariants.{«Record», Unexpected, MissingIdentity, Instance, Epoch, StaleEpoch, Sequence, SequenceOverflow, Window, Uncovered, Truncated, InvalidState, ShortStage, ShortOutput, Unsound, OuterPayload, OuterHeader, OuterLength, AckPayload, CreditPayload, PayloadLength}
 use Rattle.wire.specs.declared.Refusal.{Refusal}
 
 -- a choice by a test
@@ -17,17 +19,21 @@ refusal number a b c = record { number = number; a = a; b = b; c = c; expected =
 abbrev pub none : Refusal
 none = refusal 0 0 0 0
 
--- 01's number and figures of each error
+-- 01's number and figures of each error of a record, 1 to 9
+abbrev pub record_refusal : RecordError → Refusal
+record_refusal (Magic magic) = refusal 1 magic 0 0
+record_refusal (Version version) = refusal 2 version 0 0
+record_refusal («Type» code) = refusal 3 code 0 0
+record_refusal (Flags flags) = refusal 4 flags 0 0
+record_refusal (Length code length) = refusal 5 code length 0
+record_refusal (BootstrapIdentity code) = refusal 6 code 0 0
+record_refusal (ErrorCode value) = refusal 7 value 0 0
+record_refusal (ReceiveWindow window) = refusal 8 window 0 0
+record_refusal (Credit bytes) = refusal 9 bytes 0 0
+
+-- and of every error
 abbrev pub refusal_of : Error → Refusal
-refusal_of (Magic magic) = refusal 1 magic 0 0
-refusal_of (Version version) = refusal 2 version 0 0
-refusal_of («Type» code) = refusal 3 code 0 0
-refusal_of (Flags flags) = refusal 4 flags 0 0
-refusal_of (Length code length) = refusal 5 code length 0
-refusal_of (BootstrapIdentity code) = refusal 6 code 0 0
-refusal_of (ErrorCode value) = refusal 7 value 0 0
-refusal_of (ReceiveWindow window) = refusal 8 window 0 0
-refusal_of (Credit bytes) = refusal 9 bytes 0 0
+refusal_of («Record» e) = record_refusal e
 refusal_of (Unexpected code) = refusal 10 code 0 0
 refusal_of (MissingIdentity code) = refusal 11 code 0 0
 refusal_of (Instance expected actual) = record { number = 12; a = 0; b = 0; c = 0; expected = expected; actual = actual }
@@ -49,10 +55,20 @@ refusal_of AckPayload = refusal 27 0 0 0
 refusal_of CreditPayload = refusal 28 0 0 0
 refusal_of PayloadLength = refusal 29 0 0 0
 
+-- the refusal of an error of a record that may be there
+abbrev pub refused : Option RecordError → Refusal
+refused None = none
+refused (Some e) = record_refusal e
+
 -- what a check says: `Ok`, nothing is refused; else the error's refusal
 abbrev pub verdict : Result (Unit {0}) Error → Refusal
 verdict (Ok _) = none
 verdict (Err e) = refusal_of e
+
+-- and a check of a record
+abbrev pub checked : Result (Unit {0}) RecordError → Refusal
+checked (Ok _) = none
+checked (Err e) = record_refusal e
 
 -- A row is a test that must hold and the refusal that is given where it does not.
 -- Rows stand in 01's order; the first whose test fails stops the operation.

@@ -1,25 +1,29 @@
 // What stops an operation (01, "What stops each operation"), by the Rust's names where it has one, and
 // 01's record of each. Types are by their codes.
 ghost use Rattle.std.specs.Prelude.{◌≡◌};
-ghost use Rattle.wire.specs.Refusals.{refusal_of};
+ghost use Rattle.wire.specs.Refusals.{record_refusal, refusal_of};
+ghost use Rattle.wire.specs.declared.errors.Error.TheVariants.{Record};
 
 use crate::Refusal;
 
-// Why an operation did not do what was asked.
+// What is wrong with a record: 1 to 9, which a parser latches.
 #[derive(Clone, Copy, Debug, PartialEq, Eq)]
-pub enum Error {
+pub enum RecordError {
     Magic(u32),
     Version(u16),
     Type(u8),
     Flags(u8),
-    Length {
-        record_type: u8,
-        length: usize,
-    },
+    Length { record_type: u8, length: usize },
     BootstrapIdentity(u8),
     ErrorCode(u32),
     ReceiveWindow(u32),
     Credit(u32),
+}
+
+// Why an operation did not do what was asked.
+#[derive(Clone, Copy, Debug, PartialEq, Eq)]
+pub enum Error {
+    Record(RecordError),
     Unexpected(u8),
     MissingIdentity(u8),
     Instance {
@@ -63,23 +67,41 @@ pub enum Error {
     PayloadLength,
 }
 
+impl From<RecordError> for Error {
+    ghost from_gives = { λ e r. r ≡ Record e };
+
+    fn from(error: RecordError) -> Error {
+        Error::Record(error)
+    }
+}
+
+impl From<RecordError> for Refusal {
+    ghost from_gives = { λ e r. r ≡ record_refusal e };
+
+    fn from(error: RecordError) -> Refusal {
+        match error {
+            RecordError::Magic(magic) => Refusal::new(1, magic as u64, 0, 0),
+            RecordError::Version(version) => Refusal::new(2, version as u64, 0, 0),
+            RecordError::Type(code) => Refusal::new(3, code as u64, 0, 0),
+            RecordError::Flags(flags) => Refusal::new(4, flags as u64, 0, 0),
+            RecordError::Length {
+                record_type,
+                length,
+            } => { Refusal::new(5, record_type as u64, length as u64, 0) }
+            RecordError::BootstrapIdentity(code) => Refusal::new(6, code as u64, 0, 0),
+            RecordError::ErrorCode(value) => Refusal::new(7, value as u64, 0, 0),
+            RecordError::ReceiveWindow(window) => Refusal::new(8, window as u64, 0, 0),
+            RecordError::Credit(bytes) => Refusal::new(9, bytes as u64, 0, 0),
+        }
+    }
+}
+
 impl From<Error> for Refusal {
     ghost from_gives = { λ e r. r ≡ refusal_of e };
 
     fn from(error: Error) -> Refusal {
         match error {
-            Error::Magic(magic) => Refusal::new(1, magic as u64, 0, 0),
-            Error::Version(version) => Refusal::new(2, version as u64, 0, 0),
-            Error::Type(code) => Refusal::new(3, code as u64, 0, 0),
-            Error::Flags(flags) => Refusal::new(4, flags as u64, 0, 0),
-            Error::Length {
-                record_type,
-                length,
-            } => { Refusal::new(5, record_type as u64, length as u64, 0) }
-            Error::BootstrapIdentity(code) => Refusal::new(6, code as u64, 0, 0),
-            Error::ErrorCode(value) => Refusal::new(7, value as u64, 0, 0),
-            Error::ReceiveWindow(window) => Refusal::new(8, window as u64, 0, 0),
-            Error::Credit(bytes) => Refusal::new(9, bytes as u64, 0, 0),
+            Error::Record(error) => Refusal::from(error),
             Error::Unexpected(code) => Refusal::new(10, code as u64, 0, 0),
             Error::MissingIdentity(code) => Refusal::new(11, code as u64, 0, 0),
             Error::Instance { expected, actual } => Refusal {
