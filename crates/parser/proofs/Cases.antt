@@ -1,146 +1,36 @@
 -- The cases of the parser's rules, a law for each `return` of the code: what was tested there, and what is answered. Assumes nothing.
 use Prim.Native.Nat.{ℕ, ◌+◌, ◌-◌, ◌≤◌, ◌<◌, min}
 use mathlib.Core.Path.{◌≡◌, refl, sym, ap, ◌∙◌}
-use mathlib.Core.Bool.{Bool, true, false, not, ◌&&◌, ◌||◌, and-false, and-true}
-use mathlib.Core.List.{List, [], ◌++◌}
+use mathlib.Core.Bool.{Bool, true, false, not, ◌&&◌, and-false}
+use mathlib.Core.List.{List, [], ◌∷◌, ◌++◌}
 use native.Mathlib.Omega.{arith}
-use native.Mathlib.Decide.{ℕ_discrete, dec_lt}
+use native.Mathlib.Decide.{ℕ_discrete}
 use native.Mathlib.Nat.{zero-add}
 use lib.Seq.{take_all}
 use lib.ListN.{length, take, drop, length-take}
 use lib.Dec.{eqb, leb, ltb}
-use borrow.Author.Tests.{lt-ltb, le-ltb, le-leb, lt-leb, eq-eqb, ne_eqb, eqb-true, ltb-true, not-true, not-false}
+use borrow.Author.Tests.{lt-ltb, le-ltb, le-leb, lt-leb, eq-eqb, ne_eqb, eqb-true, leb-true, ltb-true, not-true, not-false}
 use Rattle.wire.specs.Bytes.{overlay, copied}
-use Rattle.wire.specs.Refusals.{refusal_of, pick, refusal, none, first, passes}
+use Rattle.wire.specs.Refusals.{record_refusal, refusal_of, refused, pick, refusal, none, first, passes}
 use Rattle.wire.specs.Header.{type_of, length_of}
 use Rattle.wire.specs.declared.Refusal.{Refusal}
+use Rattle.wire.specs.declared.errors.RecordError.{RecordError}
 use Rattle.wire.specs.declared.errors.Error.{Error}
 use Rattle.wire.proofs.Overlays.{copied_fits, take_overlay}
-use Rattle.wire.proofs.Rows.{refuses, and_left, and_right, passed, pass_all, row_stops, row_passes}
+use Rattle.wire.proofs.Rows.{numbered, picked, refuses, record_refuses, none_stops, and_left, and_right, passed, pass_all, row_stops, row_passes}
 use Rattle.record.specs.Types.{code_of, type_at, type_ok}
-use Rattle.record.specs.Record.{header_rows, header_checks, payload_checks, record_with, record_of, type_from, no_record}
+use Rattle.record.specs.Record.{header_rows, header_checks, payload_checks, record_with, record_of, type_from}
 use Rattle.record.specs.declared.types.RecordType.{RecordType}
-use Rattle.std.specs.Prelude.{Option, Some, None}
+use Rattle.std.specs.Prelude.{Option, Some, None, Ok, Err}
 use Rattle.record.specs.declared.Record.{Record}
 use Rattle.record.proofs.TypesCases.{known_code, unknown_code, length_limit}
 use Rattle.parser.specs.declared.RecordParser.{RecordParser}
+use Rattle.parser.proofs.Latches.{low}
 use Rattle.parser.specs.declared.Place.{Place}
 use Rattle.parser.specs.declared.Place.TheVariants.{Piece, Stage}
-use Rattle.parser.specs.declared.Pushed.{Pushed}
-use Rattle.parser.specs.Push.{parser_of, counts_ok, error_ok, sound_parser, clear, stopped, waiting, failed, completed, finish, body_taken, push_body, head_taken, head_with, push_head, push_rows, push}
-use Rattle.parser.specs.Push.{body_stage, head_stage, push_stage, held_in, Outcome, outcome, push_of, payload_at, needed_of, buffered_of, counted}
+use Rattle.parser.specs.Push.{counts_ok, error_ok, latched, sound_parser, Pushed, stopped, waiting, failed, completed, finish, body_taken, push_body, head_taken, head_with, push_head, push_rows, push}
+use Rattle.parser.specs.Push.{body_stage, head_stage, push_stage, held_in, Outcome, outcome, push_of, payload_at, Count, count_of, counted, buffered_of, end_rows}
 use Rattle.wire.proofs.PartLaws.{part_end, overlay_nothing, take_none}
-
--- ---- soundness
-module _ (h : List ℕ) (n k : ℕ) where
-  module _ (b : Bool) (full : n ≡ 44) (eb : b ≡ passes (header_checks h)) where
-    pub counts_refused : not b ≡ true → false ≡ counts_ok h n k
-    unfolding counts_ok
-    counts_refused p = simp (eq-eqb n 44 full, ← eb, not-true b p)
-
-    pub counts_held : (m : ℕ) → not b ≡ false → m ≡ length_of h → ltb k m ≡ counts_ok h n k
-    unfolding counts_ok
-    counts_held m p em = simp (eq-eqb n 44 full, ← eb, not-false b p) (ap (ltb k) em)
-
-  module _ (other : n ≡ 44 → ⊥) where
-    pub counts_filling : n < 44 → eqb k 0 ≡ counts_ok h n k
-    unfolding counts_ok
-    counts_filling p = simp (ne_eqb n 44 other, lt-ltb n 44 p)
-
-    pub counts_over : 44 ≤ n → false ≡ counts_ok h n k
-    unfolding counts_ok
-    counts_over p = simp (ne_eqb n 44 other, le-ltb n 44 p)
-
-pub ruleset counting = (counts_refused, counts_held, counts_filling, counts_over)
-
-module _ (number n : ℕ) where
-  pub error_none : number ≡ 0 → true ≡ error_ok number n
-  unfolding error_ok
-  error_none e = simp (eq-eqb number 0 e)
-
-  pub error_high : (number ≡ 0 → ⊥) → 9 < number → false ≡ error_ok number n
-  unfolding error_ok
-  error_high p q = simp (ne_eqb number 0 p, lt-leb number 9 q)
-
-  pub error_latched : (number ≡ 0 → ⊥) → number ≤ 9 → eqb n 0 ≡ error_ok number n
-  unfolding error_ok
-  error_latched p q = simp (ne_eqb number 0 p, le-leb number 9 q)
-
-pub ruleset latching = (error_none, error_high, error_latched)
-
-module _ (p : RecordParser) (b : Bool) (eb : b ≡ counts_ok p.header p.header_len p.payload_len) where
-  pub sound_not : not b ≡ true → false ≡ sound_parser p
-  unfolding sound_parser
-  sound_not n = simp (sound_parser, ← eb, not-true b n)
-
-  pub sound_error : (e : Bool) → not b ≡ false → e ≡ error_ok p.error.number p.header_len → e ≡ sound_parser p
-  unfolding sound_parser
-  sound_error e n q = simp (sound_parser, ← eb, not-false b n) q
-
-pub ruleset sounding = (sound_not, sound_error)
-
--- ---- a clear parser
-both_not : (a b c : Bool) → b && c ≡ false → (c && a) && b ≡ false
-both_not true true true e = e
-both_not true true false e = refl
-both_not true false true e = refl
-both_not true false false e = refl
-both_not false true true e = refl
-both_not false true false e = refl
-both_not false false true e = refl
-both_not false false false e = refl
-
-module _ (p : RecordParser) where
-  pub clear_error : (p.error.number ≡ 0 → ⊥) → false ≡ clear p
-  unfolding clear
-  clear_error n = simp (ne_eqb p.error.number 0 n, and-false)
-
-  module _ (z : p.error.number ≡ 0) where
-    clear_counts : clear p ≡ counts_ok p.header p.header_len p.payload_len && (not (eqb p.header_len 44) || eqb (type_of p.header) 5)
-    unfolding clear sound_parser error_ok
-    clear_counts = simp (eq-eqb p.error.number 0 z, and-true)
-
-    pub clear_filling : p.header_len < 44 → eqb p.payload_len 0 ≡ clear p
-    clear_filling l =
-        let n : p.header_len ≡ 44 → ⊥ = λ e. omega arith in
-        sym (clear_counts ∙ simp (← counts_filling p.header p.header_len p.payload_len n l, ne_eqb p.header_len 44 n, and-true))
-
-    pub clear_over : 44 < p.header_len → false ≡ clear p
-    clear_over l = sym (clear_counts ∙ simp (← counts_over p.header p.header_len p.payload_len (λ e. omega arith) (omega arith)))
-
-    module _ (b : Bool) (least : 44 ≤ p.header_len) (most : p.header_len ≤ 44) (eb : b ≡ eqb (type_of p.header) 5 && passes (header_checks p.header)) where
-      clear_full : clear p ≡ (passes (header_checks p.header) && ltb p.payload_len (length_of p.header)) && eqb (type_of p.header) 5
-      unfolding counts_ok
-      clear_full = clear_counts ∙ simp (eq-eqb p.header_len 44 (omega arith))
-
-      pub clear_other : not b ≡ true → false ≡ clear p
-      clear_other n =
-          sym (clear_full ∙ both_not (ltb p.payload_len (length_of p.header)) (eqb (type_of p.header) 5) (passes (header_checks p.header)) (sym eb ∙ not-true b n))
-
-      pub clear_held : (m : ℕ) → not b ≡ false → m ≡ length_of p.header → ltb p.payload_len m ≡ clear p
-      clear_held m n em =
-          let both : eqb (type_of p.header) 5 && passes (header_checks p.header) ≡ true = sym eb ∙ not-false b n in
-          ap (ltb p.payload_len) em
-          ∙ sym (clear_full ∙ simp (and_left (eqb (type_of p.header) 5) (passes (header_checks p.header)) both, and_right (eqb (type_of p.header) 5) (passes (header_checks p.header)) both, and-true))
-
-pub ruleset clearing = (clear_error, clear_filling, clear_over, clear_other, clear_held)
-
--- ---- answers
-pub stop_is : (p : RecordParser) (x : Refusal) (r : Record) → r ≡ no_record
-    → record { refusal = x; consumed = 0; complete = false; «record» = r; place = Piece 0; parser = p } ≡ stopped p x
-stop_is p x r e = ap (λ (k : Record). record { refusal = x; consumed = 0; complete = false; «record» = k; place = Piece 0; parser = p }) e
-
-pub wait_is : (h : List ℕ) (n k t : ℕ) (x y : Refusal) (r : Record) → x ≡ none → r ≡ no_record → y ≡ none
-    → record { refusal = x; consumed = t; complete = false; «record» = r; place = Piece 0; parser = record { header = h; header_len = n; payload_len = k; error = y } } ≡ waiting h n k t
-wait_is h n k t x y r ex er ey = λ j. record { refusal = ex j; consumed = t; complete = false; «record» = er j; place = Piece 0; parser = parser_of h n k (ey j) }
-
-pub fail_is : (h : List ℕ) (x : Refusal) (r : Record) → r ≡ no_record
-    → record { refusal = x; consumed = 0; complete = false; «record» = r; place = Piece 0; parser = record { header = h; header_len = 0; payload_len = 0; error = x } } ≡ failed h x
-fail_is h x r e = ap (λ (k : Record). record { refusal = x; consumed = 0; complete = false; «record» = k; place = Piece 0; parser = parser_of h 0 0 x }) e
-
-pub complete_is : (h : List ℕ) (t : ℕ) (at : Place) (x y : Refusal) (r : Record) → x ≡ none → r ≡ record_of h → y ≡ none
-    → record { refusal = x; consumed = t; complete = true; «record» = r; place = at; parser = record { header = h; header_len = 0; payload_len = 0; error = y } } ≡ completed h t at
-complete_is h t at x y r ex er ey = λ j. record { refusal = ex j; consumed = t; complete = true; «record» = er j; place = at; parser = parser_of h 0 0 (ey j) }
 
 -- ---- a header that passes
 module _ (h : List ℕ) (ok : passes (header_checks h) ≡ true) where
@@ -168,11 +58,10 @@ module _ (h payload : List ℕ) (t : ℕ) (at : Place) (r : Record) (ok : passes
   checked_by : (x : Refusal) → x ≡ payload_checks (code_of r.record_type) payload → x ≡ payload_checks (type_of h) payload
   checked_by x ex = ex ∙ ap (λ (k : Record). payload_checks (code_of k.record_type) payload) er ∙ ap (λ (k : ℕ). payload_checks k payload) (type_code h ok)
 
-  pub finish_fails : (e : Error) (x : Refusal) (u : Pushed) → refusal_of e ≡ payload_checks (code_of r.record_type) payload → x ≡ refusal_of e → u ≡ failed h x
+  pub finish_fails : (e : RecordError) (u : Pushed) → record_refusal e ≡ payload_checks (code_of r.record_type) payload → u ≡ failed h (record_refusal e)
       → u ≡ (finish h payload t at).answer
   unfolding finish
-  finish_fails e x u q ex eu =
-      simp (finish, ← checked_by (refusal_of e) q, refuses e) (eu ∙ ap (failed h) ex)
+  finish_fails e u q eu = simp (finish, ← checked_by (record_refusal e) q, record_refuses e) eu
 
   pub finish_completes : (u : Pushed) → none ≡ payload_checks (code_of r.record_type) payload → u ≡ completed h t at → u ≡ (finish h payload t at).answer
   unfolding finish
@@ -285,13 +174,6 @@ after44 h k rest from stage =
     (outcome (push_body h k (take k stage) rest from).answer (body_stage h k rest stage))
     (outcome (failed h (header_checks h)) stage)
 
-module _ (h : List ℕ) (k : ℕ) (rest : List ℕ) (from : ℕ) (stage : List ℕ) (u : Pushed) where
-  pub checked_fails : (e : Error) (x : Refusal) → refusal_of e ≡ header_checks h → x ≡ refusal_of e → u ≡ failed h x → outcome u stage ≡ after44 h k rest from stage
-  checked_fails e x q ex eu = simp (← q, refuses e) (ap (λ (w : Pushed). outcome w stage) (eu ∙ ap (failed h) ex))
-
-  pub checked_passes : (st : List ℕ) → none ≡ header_checks h → outcome u st ≡ outcome (push_body h k (take k stage) rest from).answer (body_stage h k rest stage) → outcome u st ≡ after44 h k rest from stage
-  checked_passes st q e = simp (← q) e
-
 -- a header with the bytes of a piece that are its own
 module _ (head piece : List ℕ) (had n : ℕ) (b : List ℕ) (size : length head ≡ 44) (low : had ≤ 44) (en : n ≡ min (44 - had) (length piece))
     (eb : b ≡ copied head had (take (n - 0) (drop 0 piece))) where
@@ -357,7 +239,7 @@ module _ (p : RecordParser) (b : Bool) (eb : b ≡ sound_parser p) (n : not b �
 
   counts : counts_ok p.header p.header_len p.payload_len ≡ true
   unfolding sound_parser
-  counts = and_left (counts_ok p.header p.header_len p.payload_len) (error_ok p.error.number p.header_len) sound
+  counts = and_left (counts_ok p.header p.header_len p.payload_len) (error_ok (latched p).number p.header_len) sound
 
   pub sound_passes : p.header_len ≡ 44 → passes (header_checks p.header) ≡ true
   sound_passes e = (held_counts p.header p.header_len p.payload_len counts e).0
@@ -412,48 +294,6 @@ module _ (h : List ℕ) (n k : ℕ) (piece : List ℕ) (full : n ≡ 44) where
     held_stage stage =
         simp whole ((λ j. pick (passes (header_checks (same_header j))) (body_stage (same_header j) k (drop (none_taken j) piece) stage) stage) ∙ simp ok)
 
--- ---- push
-module _ (p : RecordParser) (piece stage : List ℕ) (u : Pushed) where
-  stops : (x : Refusal) → x ≡ first (push_rows p (length stage)) → passes x ≡ false → u ≡ stopped p x → outcome u stage ≡ push_of p piece stage
-  unfolding push_of push push_stage
-  stops x ex n eu =
-      let f : passes (first (push_rows p (length stage))) ≡ false = ap passes (sym ex) ∙ n in
-      simp f (ap (λ (w : Pushed). outcome w stage) (eu ∙ ap (stopped p) ex))
-
-  goes : (st : List ℕ) → passes (first (push_rows p (length stage))) ≡ true
-      → outcome u st ≡ outcome (push_head p.header p.header_len p.payload_len (held_in p stage) piece).answer (head_stage p.header p.header_len p.payload_len piece stage)
-      → outcome u st ≡ push_of p piece stage
-  unfolding push_of push push_stage
-  goes st f e = simp f e
-
-  module _ (b : Bool) (eb : b ≡ sound_parser p) where
-    pub push_23 : (x : Refusal) → not b ≡ true → x ≡ refusal 23 0 0 0 → u ≡ stopped p x → outcome u stage ≡ push_of p piece stage
-    push_23 x n ex eu = stops x (row_stops _ _ x _ (sym eb ∙ not-true b n) ex) (ap passes ex) eu
-
-    module _ (n : not b ≡ false) where
-      ok : sound_parser p ≡ true
-      ok = sym eb ∙ not-false b n
-
-      pub push_21 : (x : Refusal) → length stage < 65536 → x ≡ refusal 21 0 0 0 → u ≡ stopped p x → outcome u stage ≡ push_of p piece stage
-      push_21 x l ex eu = stops x (row_passes _ _ x _ ok (row_stops _ _ x _ (lt-leb 65536 (length stage) l) ex)) (ap passes ex) eu
-
-      module _ (l : 65536 ≤ length stage) where
-        long : leb 65536 (length stage) ≡ true
-        long = le-leb 65536 (length stage) l
-
-        pub push_latched : (p.error.number ≡ 0 → ⊥) → u ≡ stopped p p.error → outcome u stage ≡ push_of p piece stage
-        push_latched m eu =
-            let f : passes p.error ≡ false = ne_eqb p.error.number 0 m in
-            stops p.error (row_passes _ _ _ _ ok (row_passes _ _ _ _ long (row_stops _ _ _ _ f refl))) f eu
-
-        module _ (st : List ℕ) (clear : p.error.number ≡ 0) where
-          free : passes (first (push_rows p (length stage))) ≡ true
-          free = pass_all (push_rows p (length stage)) (ok, (long, (eq-eqb p.error.number 0 clear, tt)))
-
--- the push of a sound parser
-pub sound_told : (p : RecordParser) (b : Bool) → b ≡ sound_parser p → not b ≡ false → sound_parser p ≡ true
-sound_told p b eb n = sym eb ∙ not-false b n
-
 module _ (p : RecordParser) (ok : sound_parser p ≡ true) where
   pub sound_count : p.header_len ≤ 44
   sound_count = go (ℕ_discrete p.header_len 44)
@@ -469,51 +309,81 @@ module _ (p : RecordParser) (ok : sound_parser p ≡ true) where
       go (yes e) = rw (same_header p.header p.header_len p.payload_len piece e) (sound_fits p true (sym ok) refl e)
       go (no e) = omega (arith, sound_empty p true (sym ok) refl e)
 
-module _ (p : RecordParser) (piece stage : List ℕ) (u : Pushed) (ok : sound_parser p ≡ true) (l : 65536 ≤ length stage) where
-  pub sound_latched : (p.error.number ≡ 0 → ⊥) → u ≡ stopped p p.error → outcome u stage ≡ push_of p piece stage
-  sound_latched m eu = push_latched p piece stage u true (sym ok) refl l m eu
+-- ---- push
+-- what stops it
+module _ (p : RecordParser) (room : ℕ) (b : Bool) (eb : b ≡ sound_parser p) where
+  pub ready_23 : not b ≡ true → refusal 23 0 0 0 ≡ first (push_rows p room)
+  ready_23 n = row_stops _ _ _ _ (sym eb ∙ not-true b n) refl
 
-  pub sound_goes : (st : List ℕ) → p.error.number ≡ 0
-      → outcome u st ≡ outcome (push_head p.header p.header_len p.payload_len (take p.payload_len stage) piece).answer (head_stage p.header p.header_len p.payload_len piece stage)
+  module _ (n : not b ≡ false) where
+    ok : sound_parser p ≡ true
+    ok = sym eb ∙ not-false b n
+
+    pub ready_21 : room < 65536 → refusal 21 0 0 0 ≡ first (push_rows p room)
+    ready_21 l = row_passes _ _ _ _ ok (row_stops _ _ _ _ (lt-leb 65536 room l) refl)
+
+    module _ (l : 65536 ≤ room) where
+      pub ready_error : (e : RecordError) → p.error ≡ Some e → record_refusal e ≡ first (push_rows p room)
+      ready_error e q = row_passes _ _ _ _ ok (row_passes _ _ _ _ (le-leb 65536 room l) (row_stops _ _ _ _ (ap (λ (x : Option RecordError). passes (refused x)) q ∙ record_refuses e) (ap refused (sym q))))
+
+      pub ready_free : p.error ≡ None → none ≡ first (push_rows p room)
+      ready_free q = none_stops (push_rows p room) (ok, (le-leb 65536 room l, (ap (λ (x : Option RecordError). passes (refused x)) q, tt)))
+
+pub ruleset readying = (ready_23, ready_21, ready_error, ready_free)
+
+module _ (p : RecordParser) (piece stage : List ℕ) where
+  pub push_stops : (e : Error) → refusal_of e ≡ first (push_rows p (length stage)) → outcome (stopped p (refusal_of e)) stage ≡ push_of p piece stage
+  unfolding push_of push push_stage
+  push_stops e q =
+      let f : passes (first (push_rows p (length stage))) ≡ false = ap passes (sym q) ∙ refuses e in
+      simp f (ap (λ (r : Refusal). outcome (stopped p r) stage) q)
+
+  goes : (u : Pushed) (st : List ℕ) → passes (first (push_rows p (length stage))) ≡ true
+      → outcome u st ≡ outcome (push_head p.header p.header_len p.payload_len (held_in p stage) piece).answer (head_stage p.header p.header_len p.payload_len piece stage)
       → outcome u st ≡ push_of p piece stage
-  sound_goes st clear e = goes p piece stage u st (free p piece stage u true (sym ok) refl l st clear) e
+  unfolding push_of push push_stage
+  goes u st f e = simp f e
 
-pub ruleset going = (sound_latched, sound_goes)
+  module _ (q : none ≡ first (push_rows p (length stage))) where
+    pub free_sound : sound_parser p ≡ true
+    unfolding first
+    free_sound =
+        picked (λ (r : Refusal). none ≡ r → sound_parser p ≡ true) (sound_parser p) (λ e _. e)
+        (λ _ z. let k : ◌≡◌ {A = ℕ} 0 23 = ap (λ (r : Refusal). r.number) z in absurd (omega arith)) q
+
+    pub free_room : 65536 ≤ length stage
+    unfolding first
+    free_room = leb-true 65536 (length stage) (go (sound_parser p) (leb 65536 (length stage)) q)
+      where
+        go : (b r : Bool) → none ≡ first ((b, refusal 23 0 0 0) ∷ (r, refusal 21 0 0 0) ∷ (passes (latched p), latched p) ∷ []) → r ≡ true
+        go true true e = refl
+        go true false e = let k : ◌≡◌ {A = ℕ} 0 21 = ap (λ (x : Refusal). x.number) e in absurd (omega arith)
+        go false true e = refl
+        go false false e = let k : ◌≡◌ {A = ℕ} 0 23 = ap (λ (x : Refusal). x.number) e in absurd (omega arith)
+
+    pub push_goes : (u : Pushed) (st : List ℕ)
+        → outcome u st ≡ outcome (push_head p.header p.header_len p.payload_len (take p.payload_len stage) piece).answer (head_stage p.header p.header_len p.payload_len piece stage)
+        → outcome u st ≡ push_of p piece stage
+    push_goes u st e = goes u st (ap passes (sym q)) e
 
 -- ---- a piece that leaves the payload in progress unfinished
 module _ (p : RecordParser) (n : ℕ) where
   abbrev stays : Bool
   stays = eqb p.header_len 44 && ltb (p.payload_len + n) (length_of p.header)
 
-  pub open_filling : (p.header_len ≡ 44 → ⊥) → false ≡ stays
-  open_filling e = simp (ne_eqb p.header_len 44 e)
-
-  module _ (size : ℕ) (full : p.header_len ≡ 44) (es : size ≡ length_of p.header) where
-    pub open_past : size < p.payload_len → false ≡ stays
-    open_past l = simp (eq-eqb p.header_len 44 full, le-ltb (p.payload_len + n) (length_of p.header) (omega arith))
-
-    pub open_room : p.payload_len ≤ size → ltb n (size - p.payload_len) ≡ stays
-    open_room l = simp (eq-eqb p.header_len 44 full) (go (dec_lt n (size - p.payload_len)))
-      where
-        go : Dec (n < size - p.payload_len) → ltb n (size - p.payload_len) ≡ ltb (p.payload_len + n) (length_of p.header)
-        go (yes h) = lt-ltb n (size - p.payload_len) h ∙ sym (lt-ltb (p.payload_len + n) (length_of p.header) (omega arith))
-        go (no h) = le-ltb n (size - p.payload_len) (omega arith) ∙ sym (le-ltb (p.payload_len + n) (length_of p.header) (omega arith))
-
-pub ruleset opening = (open_filling, open_past, open_room)
-
 -- no error is latched while a header is held
-pub sound_clear : (p : RecordParser) → sound_parser p ≡ true → p.header_len ≡ 44 → p.error.number ≡ 0
+pub sound_clear : (p : RecordParser) → sound_parser p ≡ true → p.header_len ≡ 44 → (latched p).number ≡ 0
 unfolding sound_parser error_ok
-sound_clear p ok full = go (ℕ_discrete p.error.number 0)
+sound_clear p ok full = go (ℕ_discrete (latched p).number 0)
   where
-    e : error_ok p.error.number p.header_len ≡ true
-    e = and_right (counts_ok p.header p.header_len p.payload_len) (error_ok p.error.number p.header_len) ok
+    e : error_ok (latched p).number p.header_len ≡ true
+    e = and_right (counts_ok p.header p.header_len p.payload_len) (error_ok (latched p).number p.header_len) ok
 
-    go : Dec (p.error.number ≡ 0) → p.error.number ≡ 0
+    go : Dec ((latched p).number ≡ 0) → (latched p).number ≡ 0
     go (yes z) = z
     go (no z) =
-        let t : leb p.error.number 9 && eqb p.header_len 0 ≡ true = simp (error_ok, ne_eqb p.error.number 0 z) at e in
-        let w : p.header_len ≡ 0 = eqb-true p.header_len 0 (and_right (leb p.error.number 9) (eqb p.header_len 0) t) in
+        let t : leb (latched p).number 9 && eqb p.header_len 0 ≡ true = simp (error_ok, ne_eqb (latched p).number 0 z) at e in
+        let w : p.header_len ≡ 0 = eqb-true p.header_len 0 (and_right (leb (latched p).number 9) (eqb p.header_len 0) t) in
         omega arith
 
 pub open_taken : (p : RecordParser) (piece stage st : List ℕ) → sound_parser p ≡ true → 65536 ≤ length stage → stays p (length piece) ≡ true → st ≡ copied stage p.payload_len piece
@@ -530,31 +400,44 @@ open_taken p piece stage st ok room o es =
     let w = body_waits h (length_of h) k piece 0 stage n u refl (omega arith) st room good low (es ∙ ap (copied stage k) (sym all)) (ap (waiting h 44 (k + n)) (sym (zero-add n))) in
     let a = held_push h p.header_len k piece full good (held_in p stage) in
     let c = held_stage h p.header_len k piece full good stage in
-    goes p piece stage u st (free p piece stage u true (sym ok) refl room st (sound_clear p ok full)) (w ∙ (λ j. outcome (sym a j).answer (sym c j)))
+    goes p piece stage u st (pass_all (push_rows p (length stage)) (ok, (le-leb 65536 (length stage) room, (eq-eqb (latched p).number 0 (sound_clear p ok full), tt)))) (w ∙ (λ j. outcome (sym a j).answer (sym c j)))
 
-pub ruleset pushing = (push_23, push_21)
-
--- ---- asks
-module _ (p : RecordParser) (b : Bool) (eb : b ≡ sound_parser p) where
-  pub ask_23 : (m : ℕ) (x : Refusal) → not b ≡ true → x ≡ refusal 23 0 0 0 → record { refusal = x; count = 0 } ≡ counted p m
+-- ---- what an ask tells
+module _ (p : RecordParser) (n : ℕ) where
+  pub asked_error : (e : Error) → count_of (Err e) ≡ counted p n → (sound_parser p ≡ false) × (refusal_of e ≡ refusal 23 0 0 0)
   unfolding counted
-  ask_23 m x n ex = simp (counted, ← eb, not-true b n) (ap (λ (r : Refusal). record { refusal = r; count = 0 }) ex)
+  asked_error e q =
+      picked (λ (x : Count). count_of (Err e) ≡ x → (sound_parser p ≡ false) × (refusal_of e ≡ refusal 23 0 0 0)) (sound_parser p)
+      (λ _ h. absurd (numbered e (ap (λ (x : Count). x.refusal.number) h)))
+      (λ s h. (s, ap (λ (x : Count). x.refusal) h))
+      q
 
-  pub ask_count : (m c : ℕ) (x : Refusal) → not b ≡ false → x ≡ none → c ≡ m → record { refusal = x; count = c } ≡ counted p m
+  pub asked_value : (m : ℕ) → count_of (Ok m) ≡ counted p n → (sound_parser p ≡ true) × (m ≡ n)
   unfolding counted
-  ask_count m c x n ex ec = simp (counted, ← eb, not-false b n) (λ j. record { refusal = ex j; count = ec j })
+  asked_value m q =
+      picked (λ (x : Count). count_of (Ok m) ≡ x → (sound_parser p ≡ true) × (m ≡ n)) (sound_parser p)
+      (λ s h. (s, ap (λ (x : Count). x.count) h))
+      (λ _ h. let z : ◌≡◌ {A = ℕ} 0 23 = ap (λ (x : Count). x.refusal.number) h in absurd (omega arith))
+      q
 
-  pub ask_payload : (m : ℕ) (x : Refusal) → not b ≡ false → x ≡ none → p.header_len ≡ 44 → m ≡ length_of p.header
-      → record { refusal = x; count = m - p.payload_len } ≡ counted p (needed_of p)
-  unfolding needed_of
-  ask_payload m x n ex e em = ask_count (needed_of p) (m - p.payload_len) x n ex (simp (needed_of, eq-eqb p.header_len 44 e) (ap (λ (k : ℕ). k - p.payload_len) em))
+-- the end of the stream
+module _ (p : RecordParser) (m : ℕ) (q : count_of (Ok m) ≡ counted p (buffered_of p)) where
+  pub ended_buffered : (m ≡ 0 → ⊥) → refusal 19 m 0 0 ≡ first (end_rows p)
+  unfolding first
+  ended_buffered n =
+      let t = asked_value p (buffered_of p) m q in
+      simp (t.0, ne_eqb (buffered_of p) 0 (λ z. n (t.1 ∙ z))) (ap (λ (k : ℕ). refusal 19 k 0 0) t.1)
 
-  pub ask_header : (x : Refusal) → not b ≡ false → x ≡ none → (p.header_len ≡ 44 → ⊥)
-      → record { refusal = x; count = 44 - p.header_len } ≡ counted p (needed_of p)
-  unfolding needed_of
-  ask_header x n ex e = ask_count (needed_of p) (44 - p.header_len) x n ex (simp (needed_of, ne_eqb p.header_len 44 e))
+  pub ended_empty : m ≡ 0 → none ≡ first (end_rows p)
+  unfolding first
+  ended_empty z = let t = asked_value p (buffered_of p) m q in simp (t.0, eq-eqb (buffered_of p) 0 (sym t.1 ∙ z))
 
-  pub ask_buffered : (x : Refusal) → not b ≡ false → x ≡ none → record { refusal = x; count = p.header_len + p.payload_len } ≡ counted p (buffered_of p)
-  ask_buffered x n ex = ask_count (buffered_of p) (p.header_len + p.payload_len) x n ex refl
+-- ---- a latched error
+module _ (x : Option RecordError) (n : ℕ) where
+  pub error_none : x ≡ None → true ≡ error_ok (refused x).number n
+  unfolding error_ok
+  error_none e = rw e refl
 
-pub ruleset asking = (ask_23, ask_payload, ask_header, ask_buffered)
+  pub error_some : (e : RecordError) → x ≡ Some e → eqb n 0 ≡ error_ok (refused x).number n
+  unfolding error_ok
+  error_some e q = rw q (simp (record_refuses e, le-leb (record_refusal e).number 9 (low e)))

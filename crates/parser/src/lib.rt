@@ -7,76 +7,74 @@ pub mod push;
 
 ghost use Rattle.std.specs.Prelude.{◌≡◌, ◌&&◌, eqb, ltb, ◌+◌};
 ghost use Rattle.wire.specs.Header.{length_of};
-ghost use Rattle.parser.specs.Push.{fresh, counts_ok, error_ok, sound_parser, clear, payload_at, needed_of, buffered_of, counted};
+ghost use Rattle.wire.specs.Refusals.{refused, verdict, first};
+ghost use Rattle.parser.specs.Push.{fresh, counts_ok, error_ok, sound_parser, clear, payload_at, needed_of, buffered_of, count_of, counted, end_rows};
 
 use outer::OUTER_HEADER_LEN;
 use record::Record;
 use record::header::{header_ok, is_data};
+use wire::errors::{Error, RecordError};
+use wire::fields;
 use wire::parts::part;
-use wire::{Refusal, fields};
 
 // The record in progress: its header bytes beside the counts of header and payload bytes that have
-// come, and the error that ended the stream (number 0: none).
+// come, and the error that ended the stream.
 #[derive(Clone, Copy)]
 pub struct RecordParser {
     pub header: [u8; 44],
     pub header_len: usize,
     pub payload_len: usize,
-    pub error: Refusal,
+    pub error: Option<RecordError>,
 }
 
 // Where a payload lies: in the piece from an index on, or at the start of the stage.
-#[derive(Clone, Copy)]
+#[derive(Clone, Copy, Debug, PartialEq, Eq)]
 pub enum Place {
     Piece(usize),
     Stage,
 }
 
-// What a push answers. Where no record is complete, `record` and `place` are zero.
+// A complete record, and where its payload lies.
 #[derive(Clone, Copy)]
-pub struct Pushed {
-    pub refusal: Refusal,
-    pub consumed: usize,
-    pub complete: bool,
+pub struct Complete {
     pub record: Record,
     pub place: Place,
+}
+
+// What a push has done: the bytes of the piece that it took, and the record that they complete.
+#[derive(Clone, Copy)]
+pub struct Progress {
+    pub consumed: usize,
+    pub complete: Option<Complete>,
+}
+
+// What a push answers, with the parser after it.
+#[derive(Clone, Copy)]
+pub struct Pushed {
+    pub answer: Result<Progress, Error>,
     pub parser: RecordParser,
 }
 
-// What an ask answers: the refusal, or a number of bytes.
-#[derive(Clone, Copy)]
-pub struct Count {
-    pub refusal: Refusal,
-    pub count: usize,
-}
-
 // Whether the counts fit the header bytes.
+#[tactic(auto, using(std::proofs::lemmas::Bool::Decides::nat_tests), unfolding(crate::specs::Push::counts_ok))]
 fn counts_ok(header: &[u8; 44], header_len: usize, payload_len: usize) -> bool
     ensures { result ≡ counts_ok header.now header_len payload_len }
 {
     if header_len == OUTER_HEADER_LEN {
-        if !header_ok(header) {
-            return false;
-        }
-        return payload_len < fields::length(header) as usize;
+        return header_ok(header) && payload_len < fields::length(header) as usize;
     }
-    if header_len < OUTER_HEADER_LEN {
-        return payload_len == 0;
-    }
-    false
+    header_len < OUTER_HEADER_LEN && payload_len == 0
 }
 
-// Whether a latched error is one of 1 to 9 and goes with count 0.
-fn error_ok(number: u64, header_len: usize) -> bool
-    ensures { result ≡ error_ok number header_len }
+// Whether a latched error, one of 1 to 9, goes with count 0.
+#[tactic(auto, using(crate::proofs::Cases::error_none, crate::proofs::Cases::error_some))]
+fn error_ok(error: Option<RecordError>, header_len: usize) -> bool
+    ensures { result ≡ error_ok (refused error).number header_len }
 {
-    if number == 0 {
-        return true;
+    match error {
+        Some(_) => header_len == 0,
+        None => true,
     }
-    if 9 < number {
-        return false;
-    }
-    header_len == 0
 }
 
 impl RecordParser {
@@ -88,41 +86,34 @@ impl RecordParser {
             header: [0u8; 44],
             header_len: 0,
             payload_len: 0,
-            error: Refusal::none(),
+            error: None,
         }
     }
 
     // Whether the value is one that a parser can have (01, 23).
+    #[tactic(auto, unfolding(crate::specs::Push::sound_parser))]
     pub fn is_sound(self) -> bool
         ensures { result ≡ sound_parser self }
     {
         let header = self.header;
-        if !counts_ok(&header, self.header_len, self.payload_len) {
-            return false;
-        }
-        let error = self.error;
-        error_ok(error.number, self.header_len)
+        counts_ok(&header, self.header_len, self.payload_len)
+            && error_ok(self.error, self.header_len)
     }
 
     // Whether the parser is sound with no error, and a header that it holds is one of DATA: the
     // commonest parsers, told by few tests.
+    #[tactic(auto, using(std::proofs::lemmas::Bool::Decides::nat_tests), unfolding(crate::specs::Push::clear, crate::specs::Push::sound_parser, crate::specs::Push::counts_ok, crate::specs::Push::error_ok))]
     pub fn is_clear(self) -> bool
         ensures { result ≡ clear self }
     {
-        if self.error.number != 0 {
+        if self.error.is_some() {
             return false;
         }
-        if self.header_len < OUTER_HEADER_LEN {
-            return self.payload_len == 0;
-        }
-        if OUTER_HEADER_LEN < self.header_len {
-            return false;
+        if self.header_len != OUTER_HEADER_LEN {
+            return self.header_len < OUTER_HEADER_LEN && self.payload_len == 0;
         }
         let header = self.header;
-        if !is_data(&header) {
-            return false;
-        }
-        self.payload_len < fields::length(&header) as usize
+        is_data(&header) && self.payload_len < fields::length(&header) as usize
     }
 
     // Whether so many bytes more leave the payload in progress unfinished. The push of such a piece
@@ -130,54 +121,46 @@ impl RecordParser {
     pub fn stays_open(self, count: usize) -> bool
         ensures { result ≡ eqb self.header_len 44 && ltb (self.payload_len + count) (length_of self.header) }
     {
-        if self.header_len != OUTER_HEADER_LEN {
-            return false;
-        }
         let header = self.header;
         let size = fields::length(&header) as usize;
-        if size < self.payload_len {
-            return false;
-        }
-        count < size - self.payload_len
+        self.header_len == OUTER_HEADER_LEN && count < size.saturating_sub(self.payload_len)
     }
 
     // How many more bytes complete the header or the payload in progress.
-    pub fn needed(self) -> Count
-        ensures { result ≡ counted self (needed_of self) }
+    #[tactic(auto, using(std::proofs::lemmas::Bool::Decides::nat_tests, crate::proofs::Cases::soundly), unfolding(crate::specs::Push::counted, crate::specs::Push::needed_of))]
+    pub fn needed(self) -> Result<usize, Error>
+        ensures { count_of result ≡ counted self (needed_of self) }
     {
         if !self.is_sound() {
-            return Count {
-                refusal: Refusal::new(23, 0, 0, 0),
-                count: 0,
-            };
+            return Err(Error::Unsound);
+        }
+        if self.header_len != OUTER_HEADER_LEN {
+            return Ok(OUTER_HEADER_LEN - self.header_len);
         }
         let header = self.header;
-        if self.header_len == OUTER_HEADER_LEN {
-            return Count {
-                refusal: Refusal::none(),
-                count: fields::length(&header) as usize - self.payload_len,
-            };
-        }
-        Count {
-            refusal: Refusal::none(),
-            count: OUTER_HEADER_LEN - self.header_len,
-        }
+        Ok(fields::length(&header) as usize - self.payload_len)
     }
 
     // The bytes of the partial record that the parser holds.
-    pub fn buffered(self) -> Count
-        ensures { result ≡ counted self (buffered_of self) }
+    #[tactic(auto, using(std::proofs::lemmas::Bool::Decides::nat_tests, crate::proofs::Cases::sound_total), unfolding(crate::specs::Push::counted))]
+    pub fn buffered(self) -> Result<usize, Error>
+        ensures { count_of result ≡ counted self (buffered_of self) }
     {
         if !self.is_sound() {
-            return Count {
-                refusal: Refusal::new(23, 0, 0, 0),
-                count: 0,
-            };
+            return Err(Error::Unsound);
         }
-        Count {
-            refusal: Refusal::none(),
-            count: self.header_len + self.payload_len,
+        Ok(self.header_len + self.payload_len)
+    }
+
+    // What the end of the stream finds: 23, or 19 with bytes of an unfinished record.
+    pub fn ended(self) -> Result<(), Error>
+        ensures { verdict result ≡ first (end_rows self) }
+    {
+        let buffered = self.buffered()?;
+        if buffered != 0 {
+            return Err(Error::Truncated { buffered });
         }
+        Ok(())
     }
 }
 

@@ -2,88 +2,70 @@
 // with its last byte. Payload bytes that come in several pushes lie in a stage that the caller lends.
 ghost use Rattle.std.specs.Prelude.{◌≡◌, true, eqb, ◌+◌, ◌^◌, ◌≤◌, ◌<◌, length, take, drop};
 ghost use Rattle.wire.specs.Bytes.{copied};
-ghost use Rattle.wire.specs.Refusals.{pick, passes};
+ghost use Rattle.wire.specs.Refusals.{record_refusal, verdict, pick, first, passes};
 ghost use Rattle.wire.specs.Header.{length_of};
 ghost use Rattle.record.specs.Record.{header_checks};
-ghost use Rattle.parser.specs.Push.{sound_parser, stopped, waiting, failed, completed, finish, push_body, body_stage, head_with, push_head, head_stage, push_of, outcome};
+ghost use Rattle.parser.specs.Push.{waiting, failed, completed, finish, push_body, body_stage, head_with, push_head, head_stage, push_rows, push_of, pushed, outcome};
 
-use crate::{Place, Pushed, RecordParser};
+use crate::{Complete, Place, Progress, Pushed, RecordParser};
 use outer::{OUTER_HEADER_LEN, OUTER_MAX_PAYLOAD};
 use record::checks::check_payload;
 use record::codec::record_of;
 use record::header::check_header;
-use record::no_record;
 use wire::copying::copy_at;
+use wire::errors::{Error, RecordError};
+use wire::fields;
 use wire::parts::{filled, part};
-use wire::{Refusal, fields};
-
-// Nothing changed.
-fn stop(parser: RecordParser, refusal: Refusal) -> Pushed
-    ensures { result ≡ stopped parser refusal }
-{
-    Pushed {
-        refusal,
-        consumed: 0,
-        complete: false,
-        record: no_record(),
-        place: Place::Piece(0),
-        parser,
-    }
-}
 
 // No record yet.
 fn wait(header: [u8; 44], header_len: usize, payload_len: usize, consumed: usize) -> Pushed
-    ensures { result ≡ waiting header header_len payload_len consumed }
+    ensures { pushed result ≡ waiting header header_len payload_len consumed }
 {
     Pushed {
-        refusal: Refusal::none(),
-        consumed,
-        complete: false,
-        record: no_record(),
-        place: Place::Piece(0),
+        answer: Ok(Progress {
+            consumed,
+            complete: None,
+        }),
         parser: RecordParser {
             header,
             header_len,
             payload_len,
-            error: Refusal::none(),
+            error: None,
         },
     }
 }
 
 // The error is latched.
-fn fail(header: [u8; 44], refusal: Refusal) -> Pushed
-    ensures { result ≡ failed header refusal }
+#[tactic(auto, using(crate::proofs::Latches::latching))]
+fn fail(header: [u8; 44], error: RecordError) -> Pushed
+    ensures { pushed result ≡ failed header (record_refusal error) }
 {
     Pushed {
-        refusal,
-        consumed: 0,
-        complete: false,
-        record: no_record(),
-        place: Place::Piece(0),
+        answer: Err(Error::Record(error)),
         parser: RecordParser {
             header,
             header_len: 0,
             payload_len: 0,
-            error: refusal,
+            error: Some(error),
         },
     }
 }
 
 // A record is complete.
 fn complete(header: [u8; 44], consumed: usize, place: Place) -> Pushed
-    ensures { result ≡ completed header consumed place }
+    ensures { pushed result ≡ completed header consumed place }
 {
+    let record = record_of(&header);
     Pushed {
-        refusal: Refusal::none(),
-        consumed,
-        complete: true,
-        record: record_of(&header),
-        place,
+        answer: Ok(Progress {
+            consumed,
+            complete: Some(Complete { record, place }),
+        }),
         parser: RecordParser {
             header,
             header_len: 0,
             payload_len: 0,
-            error: Refusal::none(),
+            error: None,
         },
     }
 }
@@ -91,11 +73,11 @@ fn complete(header: [u8; 44], consumed: usize, place: Place) -> Pushed
 // The payload is whole: 8, 9, 7, or the record.
 fn finished(header: [u8; 44], payload: &[u8], consumed: usize, place: Place) -> Pushed
     requires { passes (header_checks header) ≡ true }
-    ensures { result ≡ (finish header payload.now consumed place).answer }
+    ensures { pushed result ≡ (finish header payload.now consumed place).answer }
 {
     match check_payload(record_of(&header).record_type, payload) {
         Ok(()) => complete(header, consumed, place),
-        Err(error) => fail(header, Refusal::from(error)),
+        Err(error) => fail(header, error),
     }
 }
 
@@ -130,7 +112,8 @@ fn whole<'a>(before: usize, last: &'a [u8], stage: &'a [u8], size: usize) -> &'a
 }
 
 // The payload step: `before` bytes of the payload have come, and `rest` is the piece from its index
-// `from` on.
+// `from` on. What holds of stage and counts is a condition of each step, since both are the caller's
+// (01: any lengths, any session value), so that no type can have it.
 fn payload_step(
     header: [u8; 44],
     before: usize,
@@ -139,7 +122,7 @@ fn payload_step(
     stage: &mut [u8],
 ) -> Pushed
     requires { (passes (header_checks header) ≡ true) × (before ≤ length_of header) × (65536 ≤ length stage.old) × (from + length rest.now < 2 ^ 64) }
-    ensures { outcome result stage.new ≡ outcome (push_body header before (take before stage.old) rest.now from).answer (body_stage header before rest.now stage.old) }
+    ensures { outcome (pushed result) stage.new ≡ outcome (push_body header before (take before stage.old) rest.now from).answer (body_stage header before rest.now stage.old) }
 {
     let size = fields::length(&header) as usize;
     let n = (size - before).min(rest.len());
@@ -159,11 +142,11 @@ fn payload_step(
 // is held `before` bytes of its payload have come.
 fn checked(header: [u8; 44], before: usize, rest: &[u8], from: usize, stage: &mut [u8]) -> Pushed
     requires { (before ≤ length_of header) × (65536 ≤ length stage.old) × (from + length rest.now < 2 ^ 64) }
-    ensures { outcome result stage.new ≡ pick (passes (header_checks header)) (outcome (push_body header before (take before stage.old) rest.now from).answer (body_stage header before rest.now stage.old)) (outcome (failed header (header_checks header)) stage.old) }
+    ensures { outcome (pushed result) stage.new ≡ pick (passes (header_checks header)) (outcome (push_body header before (take before stage.old) rest.now from).answer (body_stage header before rest.now stage.old)) (outcome (failed header (header_checks header)) stage.old) }
 {
     match check_header(&header) {
         Ok(()) => payload_step(header, before, rest, from, stage),
-        Err(error) => fail(header, Refusal::from(error)),
+        Err(error) => fail(header, error),
     }
 }
 
@@ -176,7 +159,7 @@ fn header_step(
     stage: &mut [u8],
 ) -> Pushed
     requires { (had ≤ 44) × (before ≤ length_of (head_with header had piece.now)) × (65536 ≤ length stage.old) }
-    ensures { outcome result stage.new ≡ outcome (push_head header had before (take before stage.old) piece.now).answer (head_stage header had before piece.now stage.old) }
+    ensures { outcome (pushed result) stage.new ≡ outcome (push_head header had before (take before stage.old) piece.now).answer (head_stage header had before piece.now stage.old) }
 {
     let n = (OUTER_HEADER_LEN - had).min(piece.len());
     let bytes = filled(header, had, &piece[0..n]);
@@ -187,29 +170,38 @@ fn header_step(
     checked(bytes, before, &piece[n..], n, stage)
 }
 
+// What stops a push: 23, 21, or the latched error.
+fn ready(parser: RecordParser, room: usize) -> Result<(), Error>
+    ensures { verdict result ≡ first (push_rows parser room) }
+{
+    if !parser.is_sound() {
+        return Err(Error::Unsound);
+    }
+    if room < OUTER_MAX_PAYLOAD {
+        return Err(Error::ShortStage);
+    }
+    match parser.error {
+        Some(error) => Err(Error::Record(error)),
+        None => Ok(()),
+    }
+}
+
 // Takes bytes of the piece up to the end of one record and no further. The stage holds payload
 // bytes that come in several pushes.
 pub fn push(parser: RecordParser, piece: &[u8], stage: &mut [u8]) -> Pushed
-    ensures { outcome result stage.new ≡ push_of parser piece.now stage.old }
+    ensures { outcome (pushed result) stage.new ≡ push_of parser piece.now stage.old }
 {
-    if !parser.is_sound() {
-        return stop(parser, Refusal::new(23, 0, 0, 0));
+    match ready(parser, stage.len()) {
+        Ok(()) => header_step(
+            parser.header,
+            parser.header_len,
+            parser.payload_len,
+            piece,
+            stage,
+        ),
+        Err(error) => Pushed {
+            answer: Err(error),
+            parser,
+        },
     }
-    if stage.len() < OUTER_MAX_PAYLOAD {
-        return stop(parser, Refusal::new(21, 0, 0, 0));
-    }
-    push_sound(parser, piece, stage)
-}
-
-// The push of a sound parser with a whole stage.
-fn push_sound(parser: RecordParser, piece: &[u8], stage: &mut [u8]) -> Pushed
-    requires { (sound_parser parser ≡ true) × (65536 ≤ length stage.old) }
-    ensures { outcome result stage.new ≡ push_of parser piece.now stage.old }
-{
-    let error = parser.error;
-    if error.number != 0 {
-        return stop(parser, error);
-    }
-    let header = parser.header;
-    header_step(header, parser.header_len, parser.payload_len, piece, stage)
 }

@@ -6,4 +6,4 @@ pub returns-in-Ok : goal.returns-in-Ok
 returns-in-Ok c = finish_completes _ _ _ _ _ c.requires c.record_of.ensures _ c.in-Ok.ensures c.complete.ensures
 
 pub returns-in-Err : goal.returns-in-Err
-returns-in-Err c = finish_fails _ _ _ _ _ c.requires c.record_of.ensures _ _ _ c.in-Err.ensures c.from.ensures c.fail.ensures
+returns-in-Err c = finish_fails _ _ _ _ _ c.requires c.record_of.ensures _ _ c.in-Err.ensures c.fail.ensures
