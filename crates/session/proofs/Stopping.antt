@@ -5,20 +5,22 @@ use mathlib.Core.List.{List, [], ◌∷◌}
 use borrow.Author.Tests.{not-true, not-false}
 use Rattle.wire.specs.Refusals.{refusal, none, first}
 use Rattle.wire.specs.declared.Refusal.{Refusal}
-use Rattle.wire.proofs.Rows.{row_stops, row_passes, no_rows}
 
 abbrev pub begin_rows : Bool → Bool → List (Bool × Refusal)
 begin_rows b k = (b, refusal 23 0 0 0) ∷ (k, refusal 20 0 0 0) ∷ []
 
-module _ (b k : Bool) (x : Refusal) where
-  pub stopped_23 : not b ≡ true → x ≡ refusal 23 0 0 0 → x ≡ first (begin_rows b k)
-  stopped_23 n ex = row_stops _ _ x _ (not-true b n) ex
+module _ (b k : Bool) where
+  pub stopped_23 : not b ≡ true → refusal 23 0 0 0 ≡ first (begin_rows b k)
+  unfolding first
+  stopped_23 n = simp (not-true b n)
 
   module _ (n : not b ≡ false) where
-    pub stopped_20 : not k ≡ true → x ≡ refusal 20 0 0 0 → x ≡ first (begin_rows b k)
-    stopped_20 h ex = row_passes _ _ x _ (not-false b n) (row_stops _ _ x _ (not-true k h) ex)
+    pub stopped_20 : not k ≡ true → refusal 20 0 0 0 ≡ first (begin_rows b k)
+    unfolding first
+    stopped_20 h = simp (not-false b n, not-true k h)
 
-    pub stopped_not : not k ≡ false → x ≡ none → x ≡ first (begin_rows b k)
-    stopped_not h ex = row_passes _ _ x _ (not-false b n) (row_passes _ _ x _ (not-false k h) (no_rows x ex))
+    pub stopped_not : not k ≡ false → none ≡ first (begin_rows b k)
+    unfolding first
+    stopped_not h = simp (not-false b n, not-false k h)
 
 pub ruleset stopping = (stopped_23, stopped_20, stopped_not)

@@ -1,12 +1,13 @@
 -- Identities and the shared checks (01, "Shared checks").
-use Rattle.std.specs.Prelude.{ℕ, ◌+◌, Bool, false, not, ◌&&◌, List, replicate, eqb, ltb, Option, Some, None}
+use Rattle.std.specs.Prelude.{ℕ, ◌+◌, Bool, false, not, ◌&&◌, List, replicate, eqb, ltb, Option, Some, None, Result, Ok, Err}
 use Rattle.std.specs.Cmp.Lexicographic.{pointwise}
-use Rattle.wire.specs.Refusals.{pick, refusal, none}
+use Rattle.wire.specs.Refusals.{pick, refusal, none, refusal_of}
 use Rattle.wire.specs.declared.Refusal.{Refusal}
+use Rattle.wire.specs.declared.Sequence.{Sequence}
+use Rattle.wire.specs.declared.errors.Error.{Error}
 use Rattle.record.specs.Record.{all_zero}
 use Rattle.record.specs.declared.Record.{Record}
 use Rattle.session.specs.declared.Identity.{Identity}
-use Rattle.session.specs.declared.NextSequence.{NextSequence}
 
 -- the same bytes
 unfoldable pub same : List ℕ → List ℕ → Bool
@@ -47,6 +48,15 @@ last_sequence = 18446744073709551615
 -- 16 no next sequence (a type)
 abbrev pub next_row : ℕ → ℕ → (Bool × Refusal)
 next_row t sequence = (ltb sequence last_sequence, refusal 16 t 0 0)
+
+-- what the next sequence's function answers: what is refused, and the sequence
+pub record NextSequence : Type 0 where
+  pub refusal : Refusal
+  pub sequence : Sequence
+
+abbrev pub following : Result Sequence Error → NextSequence
+following (Ok s) = record { refusal = none; sequence = s }
+following (Err e) = record { refusal = refusal_of e; sequence = record { 0 = 0 } }
 
 unfoldable pub next_sequence : ℕ → ℕ → NextSequence
 next_sequence sequence t =

@@ -7,12 +7,14 @@ pub mod next;
 
 ghost use Rattle.std.specs.Prelude.{◌≡◌};
 ghost use Rattle.record.specs.Types.{code_of};
-ghost use Rattle.session.specs.Checks.{identity_of, same, no_identity, identity_ok, holds, held, record_identity, next_sequence};
+ghost use Rattle.session.specs.Checks.{identity_of, same, no_identity, identity_ok, holds, held, record_identity, following, next_sequence};
+ghost use Rattle.session.specs.Answers.{asked};
 
 use record::Record;
 use record::checks::all_zero;
 use record::types::RecordType;
-use wire::{Epoch, Refusal, Sequence};
+use wire::errors::Error;
+use wire::{Epoch, Sequence};
 
 // Identity of one epoch of a session.
 #[derive(Clone, Copy, Debug, PartialEq, Eq)]
@@ -21,14 +23,29 @@ pub struct Identity {
     pub epoch: Epoch,
 }
 
-// The sequence after another, or the refusal.
-#[derive(Clone, Copy)]
-pub struct NextSequence {
-    pub refusal: Refusal,
-    pub sequence: Sequence,
+// What a call answers, with the session after it.
+#[derive(Clone, Copy, Debug, PartialEq, Eq)]
+pub struct After<S, T> {
+    pub answer: Result<T, Error>,
+    pub session: S,
 }
 
-// Whether two instances are the same.
+// What a call that writes answers: the bytes of data taken by `send`, else 0, and the position
+// after the record.
+#[derive(Clone, Copy, Debug, PartialEq, Eq)]
+pub struct Sent {
+    pub count: usize,
+    pub next: usize,
+}
+
+// What a receive has done: the bytes of the piece that it took, and what it reports.
+#[derive(Clone, Copy, Debug, PartialEq, Eq)]
+pub struct Received<E> {
+    pub consumed: usize,
+    pub event: Option<E>,
+}
+
+// Whether two instances are the same: `==`, under the rule's name.
 #[tactic(auto, unfolding(crate::specs::Checks::same))]
 pub fn same_instance(a: [u8; 16], b: [u8; 16]) -> bool
     ensures { result ≡ same a b }
@@ -36,7 +53,7 @@ pub fn same_instance(a: [u8; 16], b: [u8; 16]) -> bool
     a == b
 }
 
-// No identity: what an answer without one holds.
+// No identity: zeros, what `held` gives where there is none.
 pub fn no_identity() -> Identity
     ensures { result ≡ no_identity }
 {
@@ -82,29 +99,33 @@ pub fn identity_in(record: Record) -> Identity
 }
 
 // The identity that a record carries.
+#[tactic(auto, using(crate::proofs::Cases::carries, crate::proofs::Cases::carries_none))]
 pub fn record_identity(record: Record) -> Option<Identity>
     ensures { result ≡ record_identity «record» }
 {
-    let instance_id = record.instance_id;
-    let epoch = record.epoch;
-    if is_identity(instance_id, epoch) {
-        return Some(Identity { instance_id, epoch });
+    if is_identity(record.instance_id, record.epoch) {
+        return Some(identity_in(record));
     }
     None
 }
 
 // The sequence after another. The one after 2^64 - 1 does not exist.
-pub fn next_sequence(sequence: Sequence, record_type: RecordType) -> NextSequence
-    ensures { result ≡ next_sequence sequence.0 (code_of record_type) }
+pub fn next_sequence(sequence: Sequence, record_type: RecordType) -> Result<Sequence, Error>
+    ensures { following result ≡ next_sequence sequence.0 (code_of record_type) }
 {
-    if sequence.0 < u64::MAX {
-        return NextSequence {
-            refusal: Refusal::none(),
-            sequence: Sequence(sequence.0 + 1),
-        };
+    match sequence.0.checked_add(1) {
+        Some(next) => Ok(Sequence(next)),
+        None => Err(Error::SequenceOverflow(record_type.code())),
     }
-    NextSequence {
-        refusal: Refusal::new(16, record_type.code() as u64, 0, 0),
-        sequence: Sequence(0),
+}
+
+// The answer of an ask to a session: 23, or the value.
+pub fn asked<T: Copy>(sound: bool, value: T) -> Result<T, Error>
+    ensures { result ≡ asked sound value }
+{
+    if sound {
+        Ok(value)
+    } else {
+        Err(Error::Unsound)
     }
 }

@@ -1,21 +1,19 @@
 // The encoders of the next record of a direction, which the two ends of a session share (nvxs/mod.rs).
 ghost use Rattle.std.specs.Prelude.{◌≡◌};
 ghost use Rattle.record.specs.Types.{code_of};
-ghost use Rattle.session.specs.Writes.{outcome, not_encoded, encode_next, encode_data};
+ghost use Rattle.session.specs.Writes.{outcome, encoded, encode_next, encode_data};
 
-use crate::{Identity, next_sequence};
+use crate::{Identity, Sent, next_sequence};
 use outer::OUTER_MAX_PAYLOAD;
 use record::codec::encode_record;
 use record::types::RecordType;
-use wire::{Refusal, Sequence};
+use wire::Sequence;
+use wire::errors::Error;
 
-// What encoding the next record answers: bytes of data taken, the position after the record and the
-// sequence after it.
-#[derive(Clone, Copy)]
+// What encoding the next record answers: what the call answers, and the sequence after the record's.
+#[derive(Clone, Copy, Debug, PartialEq, Eq)]
 pub struct Encoded {
-    pub refusal: Refusal,
-    pub count: usize,
-    pub next: usize,
+    pub sent: Sent,
     pub sequence: Sequence,
 }
 
@@ -28,45 +26,23 @@ fn encode_counted(
     payload: &[u8],
     output: &mut [u8],
     at: usize,
-) -> Encoded
-    ensures { outcome result output.new ≡ encode_next (code_of record_type) identity sequence.0 count payload.now output.old at }
+) -> Result<Encoded, Error>
+    ensures { outcome (encoded sequence.0 result) output.new ≡ encode_next (code_of record_type) identity sequence.0 count payload.now output.old at }
 {
-    let next = next_sequence(sequence, record_type);
-    let following = next.sequence;
-    let missing = next.refusal;
-    if missing.number != 0 {
-        return not_encoded(missing, sequence);
-    }
-    let instance_id = identity.instance_id;
-    match encode_record(
+    let following = next_sequence(sequence, record_type)?;
+    let next = encode_record(
         record_type,
-        instance_id,
+        identity.instance_id,
         identity.epoch,
         sequence,
         payload,
         output,
         at,
-    ) {
-        Ok(next) => Encoded {
-            refusal: Refusal::none(),
-            count,
-            next,
-            sequence: following,
-        },
-        Err(error) => not_encoded(Refusal::from(error), sequence),
-    }
-}
-
-// Nothing is encoded.
-fn not_encoded(refusal: Refusal, sequence: Sequence) -> Encoded
-    ensures { result ≡ not_encoded refusal sequence.0 }
-{
-    Encoded {
-        refusal,
-        count: 0,
-        next: 0,
-        sequence,
-    }
+    )?;
+    Ok(Encoded {
+        sent: Sent { count, next },
+        sequence: following,
+    })
 }
 
 // Encodes the next record of a direction.
@@ -77,8 +53,8 @@ pub fn encode_next(
     payload: &[u8],
     output: &mut [u8],
     at: usize,
-) -> Encoded
-    ensures { outcome result output.new ≡ encode_next (code_of record_type) identity sequence.0 0 payload.now output.old at }
+) -> Result<Encoded, Error>
+    ensures { outcome (encoded sequence.0 result) output.new ≡ encode_next (code_of record_type) identity sequence.0 0 payload.now output.old at }
 {
     encode_counted(record_type, identity, sequence, 0, payload, output, at)
 }
@@ -90,8 +66,8 @@ pub fn encode_data(
     bytes: &[u8],
     output: &mut [u8],
     at: usize,
-) -> Encoded
-    ensures { outcome result output.new ≡ encode_data identity sequence.0 bytes.now output.old at }
+) -> Result<Encoded, Error>
+    ensures { outcome (encoded sequence.0 result) output.new ≡ encode_data identity sequence.0 bytes.now output.old at }
 {
     let taken = bytes.len().min(OUTER_MAX_PAYLOAD);
     encode_counted(
@@ -99,7 +75,7 @@ pub fn encode_data(
         identity,
         sequence,
         taken,
-        &bytes[0..taken],
+        &bytes[..taken],
         output,
         at,
     )

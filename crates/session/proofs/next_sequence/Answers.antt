@@ -1,10 +1,10 @@
--- `session::next_sequence` meets its contract. The laws `following` have a case for each return: a sequence under the last, and 16. Assumes nothing.
-use Rattle.session.proofs.Cases.{following}
+-- `session::next_sequence` meets its contract: a sequence under the last, and 16. Assumes nothing.
+use Rattle.std.proofs.Common.{arith}
+use Rattle.session.proofs.Cases.{next_some, next_none}
 use Rattle.session.proofs.next_sequence.Goals as goal
 
-pub returns-then-sequence-lt18446744073709551615 :
-    goal.returns-then-sequence-lt18446744073709551615
-returns-then-sequence-lt18446744073709551615 c = search following
+pub returns-in-Some : goal.returns-in-Some
+returns-in-Some c = rw c.in-Some.ensures.1 (next_some c.args.sequence.0 _ (omega (arith, c.in-Some.ensures.0)))
 
-pub returns : goal.returns
-returns c = search following
+pub returns-in-None : goal.returns-in-None
+returns-in-None c = rw c.code.ensures (next_none _ _ (omega (arith, c.in-None.ensures)))

@@ -1,9 +1,9 @@
--- `session::checks::check_sequence` meets its contract. The laws `sequencing` have a case for each return: the sequence that is due, and 15. Assumes nothing.
-use Rattle.session.proofs.Cases.{sequencing}
+-- `session::checks::check_sequence` meets its contract: another sequence than the one due (15). Assumes nothing.
+use Rattle.session.proofs.Cases.{differs, agrees}
 use Rattle.session.proofs.checks.check_sequence.Goals as goal
 
-pub returns-then-eq : goal.returns-then-eq
-returns-then-eq c = search sequencing
+pub returns-then-ne : goal.returns-then-ne
+returns-then-ne c = differs _ _ _ c.ne.ensures c.if-ne.true
 
 pub returns : goal.returns
-returns c = search sequencing
+returns c = agrees _ _ _ c.ne.ensures c.if-ne.false

@@ -1,16 +1,17 @@
--- `session::next::encode_counted` meets its contract. Each way it returns is a case of its rule: `encoding`, `next_done` of proofs/NextCases. Assumes nothing.
-use Rattle.std.proofs.Common.{refl, Ok}
-use Rattle.outer.specs.Outer.{written}
-use Rattle.session.proofs.NextCases.{next_missing, next_done, next_error}
+-- `session::next::encode_counted` meets its contract: 16, what the encoder refuses, or the record (`next_missing`, `next_refused`, `next_done` of proofs/NextCases). Assumes nothing.
+use Rattle.std.proofs.lemmas.Result.{err_from_is_err_and}
+use Rattle.session.proofs.NextCases.{next_missing, next_refused, next_done}
 use Rattle.session.proofs.next.encode_counted.Goals as goal
 
-pub returns-then-missing-ne0 : goal.returns-then-missing-ne0
-returns-then-missing-ne0 c = search next_missing
+pub returns-in_err-following : goal.returns-in_err-following
+returns-in_err-following c =
+    let p = err_from_is_err_and c.from_residual.result c.from_residual.ensures.1 in
+    rw (p.1, p.2) (next_missing _ _ _ _ _ _ _ _ c.in_err-following.ensures)
 
-pub returns-in-Ok : goal.returns-in-Ok
-returns-in-Ok c =
-    next_done _ _ _ _ _ _ _ _ c.next_sequence-next.ensures (written (Ok c.in-Ok.next)) _ c.if-missing-ne0.false c.in-Ok.ensures _ refl c.none.ensures
+pub returns-in_err-next : goal.returns-in_err-next
+returns-in_err-next c =
+    let p = err_from_is_err_and c.from_residual-in_err-next.result c.from_residual-in_err-next.ensures.1 in
+    rw (p.1, p.2) (next_refused _ _ _ _ _ _ _ _ c.in_ok-following.ensures _ _ c.in_err-next.ensures)
 
-pub returns-in-Err : goal.returns-in-Err
-returns-in-Err c =
-    next_error _ _ _ _ _ _ _ _ c.next_sequence-next.ensures _ _ _ _ c.if-missing-ne0.false c.in-Err.ensures c.from.ensures c.not_encoded-in-Err.ensures
+pub returns : goal.returns
+returns c = next_done _ _ _ _ _ _ _ _ c.in_ok-following.ensures _ _ c.in_ok-next.ensures
