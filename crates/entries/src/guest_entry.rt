@@ -3,70 +3,37 @@
 // operation by value and stores the session of its answer back. `receive_once` and `credit_once` are
 // the entries on a session by value.
 ghost use Rattle.std.specs.Prelude.{◌≡◌};
-ghost use Rattle.guest.specs.Receive.{receive_of};
+ghost use Rattle.guest.specs.Receive.{received, receive_of};
 ghost use Rattle.guest.specs.Receive as receiving;
-ghost use Rattle.guest_core.specs.Writes.{outcome};
+ghost use Rattle.guest_core.specs.Writes.{outcome, sent};
 ghost use Rattle.guest_core.specs.Send.{credit};
-ghost use Rattle.entries.specs.GuestAnswers.{receive_answer, credit_answer};
 
-use guest::{GuestEvent, GuestSession, Received, Sent, credit, receive};
-use parser::Place;
-use session::Identity;
-use wire::Refusal;
+use guest::{After, Error, GuestEvent, GuestSession, Received, Sent, credit, receive};
 
-// What a receive answers beside the session. The bytes of data are had by the guest's `payload`.
-#[derive(Clone, Copy)]
-pub struct ReceiveAnswer {
-    pub refusal: Refusal,
-    pub consumed: usize,
-    pub event: GuestEvent,
-    pub identity: Identity,
-    pub place: Place,
-    pub length: usize,
-}
-
-// Takes bytes of the piece up to the end of one record, and reports what the record says.
-pub fn receive_in(session: &mut GuestSession, piece: &[u8], stage: &mut [u8]) -> ReceiveAnswer
-    ensures value { result ≡ receive_answer (receive_of session.old piece.now stage.old).received }
-    ensures session_after { session.new ≡ (receive_of session.old piece.now stage.old).received.session }
-    ensures stage_after { stage.new ≡ (receive_of session.old piece.now stage.old).stage }
+// Takes bytes of the piece up to the end of one record, and reports what the record says. The bytes
+// of data are had by the guest's `payload`.
+pub fn receive_in(
+    session: &mut GuestSession,
+    piece: &[u8],
+    stage: &mut [u8],
+) -> Result<Received<GuestEvent>, Error>
+    ensures { receiving.outcome (received (record { answer = result; session = session.new })) stage.new ≡ receive_of session.old piece.now stage.old }
 {
-    let before = *session;
-    let done = receive(before, piece, stage);
+    let done = receive(*session, piece, stage);
     *session = done.session;
-    ReceiveAnswer {
-        refusal: done.refusal,
-        consumed: done.consumed,
-        event: done.event,
-        identity: done.identity,
-        place: done.place,
-        length: done.length,
-    }
+    done.answer
 }
 
 // `receive_in` on a session that is passed and answered by value.
-pub fn receive_once(session: GuestSession, piece: &[u8], stage: &mut [u8]) -> Received
-    ensures { receiving.outcome result stage.new ≡ receive_of session piece.now stage.old }
+pub fn receive_once(
+    mut session: GuestSession,
+    piece: &[u8],
+    stage: &mut [u8],
+) -> After<GuestSession, Received<GuestEvent>>
+    ensures { receiving.outcome (received result) stage.new ≡ receive_of session piece.now stage.old }
 {
-    let mut s = session;
-    let answer = receive_in(&mut s, piece, stage);
-    Received {
-        refusal: answer.refusal,
-        consumed: answer.consumed,
-        event: answer.event,
-        identity: answer.identity,
-        place: answer.place,
-        length: answer.length,
-        session: s,
-    }
-}
-
-// What a credit answers beside the session: a count of 0, and the position after the record.
-#[derive(Clone, Copy)]
-pub struct CreditAnswer {
-    pub refusal: Refusal,
-    pub count: usize,
-    pub next: usize,
+    let answer = receive_in(&mut session, piece, stage);
+    After { answer, session }
 }
 
 // Writes a CREDIT record: returns consumed bytes to the window.
@@ -75,31 +42,23 @@ pub fn credit_in(
     bytes: u32,
     output: &mut [u8],
     at: usize,
-) -> CreditAnswer
-    ensures value { result ≡ credit_answer (credit session.old bytes output.old at).sent }
-    ensures session_after { session.new ≡ (credit session.old bytes output.old at).sent.session }
-    ensures output_after { output.new ≡ (credit session.old bytes output.old at).output }
+) -> Result<Sent, Error>
+    ensures { outcome (sent (record { answer = result; session = session.new })) output.new ≡ credit session.old bytes output.old at }
 {
-    let before = *session;
-    let done = credit(before, bytes, output, at);
-    *session = done.session;
-    CreditAnswer {
-        refusal: done.refusal,
-        count: done.count,
-        next: done.next,
-    }
+    let credited = credit(*session, bytes, output, at);
+    *session = credited.session;
+    credited.answer
 }
 
 // `credit_in` on a session that is passed and answered by value.
-pub fn credit_once(session: GuestSession, bytes: u32, output: &mut [u8], at: usize) -> Sent
-    ensures { outcome result output.new ≡ credit session bytes output.old at }
+pub fn credit_once(
+    mut session: GuestSession,
+    bytes: u32,
+    output: &mut [u8],
+    at: usize,
+) -> After<GuestSession, Sent>
+    ensures { outcome (sent result) output.new ≡ credit session bytes output.old at }
 {
-    let mut s = session;
-    let answer = credit_in(&mut s, bytes, output, at);
-    Sent {
-        refusal: answer.refusal,
-        count: answer.count,
-        next: answer.next,
-        session: s,
-    }
+    let answer = credit_in(&mut session, bytes, output, at);
+    After { answer, session }
 }

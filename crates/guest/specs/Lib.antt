@@ -1,3 +1,4 @@
 pub mod Checks
+pub mod Event
 pub mod Receive
 pub mod Flow

@@ -1,24 +1,28 @@
 -- The rule of a guest's receive (01, "receive"). What it answers depends on the stage only by its length and by `held`, the payload bytes
 -- that have come; what it leaves in the stage is a rule of its own, `receive_stage`.
-use Rattle.std.specs.Prelude.{ℕ, Bool, ◌&&◌, ◌||◌, List, [], ◌∷◌, length, eqb, leb}
-use Rattle.wire.specs.Refusals.{pick, refusal, none, first, passes}
+use Rattle.std.specs.Prelude.{ℕ, Bool, ◌&&◌, ◌||◌, List, [], ◌∷◌, length, eqb, leb, Option, Some, None, Result, Ok, Err}
+use Rattle.wire.specs.Refusals.{pick, refusal, none, refusal_of, first, passes}
 use Rattle.outer.specs.Outer.{max_payload}
 use Rattle.wire.specs.declared.Refusal.{Refusal}
+use Rattle.wire.specs.declared.errors.Error.{Error}
 use Rattle.record.specs.Types.{code_of}
 use Rattle.record.specs.declared.Record.{Record}
-use Rattle.parser.specs.Push.{Push, push, push_stage, held_in}
+use Rattle.parser.specs.Push.{Pushed, Push, push, push_stage, held_in}
 use Rattle.parser.specs.declared.Place.{Place}
 use Rattle.parser.specs.declared.Place.TheVariants.{Piece}
-use Rattle.parser.specs.declared.Pushed.{Pushed}
+use Rattle.parser.specs.declared.RecordParser.{RecordParser}
 use Rattle.session.specs.Checks.{no_identity, identity_of}
 use Rattle.session.specs.declared.Identity.{Identity}
+use Rattle.session.specs.declared.After.{After}
+use Rattle.session.specs.declared.Received as code
 use Rattle.guest_core.specs.State.{is_open, is_active, sound_guest, with_state, reset_guest, data_guest}
 use Rattle.guest_core.specs.declared.GuestState.{GuestState}
 use Rattle.guest_core.specs.declared.GuestState.TheVariants as State
-use Rattle.guest.specs.declared.accept.GuestEvent.{GuestEvent}
-use Rattle.guest.specs.declared.accept.GuestEvent.TheVariants as Event
+use Rattle.guest.specs.Event.{GuestEvent}
+use Rattle.guest.specs.Event as Event
+use Rattle.guest.specs.declared.accept.GuestEvent as code-event
+use Rattle.guest.specs.declared.accept.GuestEvent.TheVariants as Told
 use Rattle.guest_core.specs.declared.GuestSession.{GuestSession}
-use Rattle.guest.specs.declared.accept.Received.{Received}
 use Rattle.guest.specs.Checks.{reset_rows, data_rows}
 
 -- ---- a whole record
@@ -30,6 +34,16 @@ abbrev pub is_reset : Record → Bool
 is_reset r = eqb (code_of r.record_type) 3
 
 -- ---- the answers
+-- what a receive answers: what is refused, the bytes taken, the event with what it reports, and the session after it
+pub record Received : Type 0 where
+  pub refusal : Refusal
+  pub consumed : ℕ
+  pub event : GuestEvent
+  pub identity : Identity
+  pub place : Place
+  pub length : ℕ
+  pub session : GuestSession
+
 -- what a receive does: its answer, the payload bytes held afterwards, and the payload handed out ([] where there is none)
 pub record Receive : Type 0 where
   pub answer : Received
@@ -47,6 +61,26 @@ refused r g = answered r 0 Event.Nothing no_identity (Piece 0) 0 g
 abbrev pub fail_with : GuestSession → Push → Refusal → Receive
 fail_with g u r = record { answer = refused r (with_state g State.Failed u.answer.parser); held = u.held; payload = [] }
 
+-- ---- the answers of the code
+-- an event with what it reports: the identity of a reset, or where the bytes of data lie
+abbrev pub reported : Option code-event.GuestEvent → ℕ → GuestSession → Received
+reported None consumed g = answered none consumed Event.Nothing no_identity (Piece 0) 0 g
+reported (Some (Told.Reset i)) consumed g = answered none consumed Event.Reset i (Piece 0) 0 g
+reported (Some (Told.Data place n)) consumed g = answered none consumed Event.Data no_identity place n g
+
+abbrev pub received_by : Result (code.Received code-event.GuestEvent) Error → GuestSession → Received
+received_by (Ok r) g = reported r.event r.consumed g
+received_by (Err e) g = refused (refusal_of e) g
+
+abbrev pub received : After GuestSession (code.Received code-event.GuestEvent) → Received
+received a = received_by a.answer a.session
+
+-- a whole record with the bytes taken: the session after it and the event, or an error that leaves Failed with the parser as push left it
+abbrev pub accepted : GuestSession → RecordParser → ℕ → Result (GuestSession × code-event.GuestEvent) Error → Received
+accepted g p consumed (Ok a) = reported (Some a.1) consumed a.0
+accepted g p consumed (Err e) = refused (refusal_of e) (with_state g State.Failed p)
+
+-- ---- the rule
 -- a push by its answer alone: what the answer of a receive is made of
 abbrev pub told : Pushed → Push
 told a = record { answer = a; held = []; payload = [] }

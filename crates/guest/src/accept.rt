@@ -1,41 +1,30 @@
 // What a guest's session makes of a push (01, "receive"), by value: `receive_any` is any receive, on
 // which the fast path falls back.
-ghost use Rattle.std.specs.Prelude.{◌≡◌, ◌&&◌, ◌||◌, ◌+◌, ◌≤◌, ◌<◌, eqb};
-ghost use Rattle.record.specs.Types.{code_of};
+ghost use Rattle.std.specs.Prelude.{◌≡◌, ◌+◌, ◌^◌, ◌<◌, ℕ, Some};
+ghost use Rattle.wire.specs.Refusals.{refusal_of};
+ghost use Rattle.parser.specs.Push.{progressed};
+ghost use Rattle.parser.specs.Push as pushing;
 ghost use Rattle.session.specs.Checks.{last_sequence};
-ghost use Rattle.guest_core.specs.State.{is_open, is_active, with_state, reset_session, data_guest};
+ghost use Rattle.guest_core.specs.State.{is_open, with_state, reset_session, data_guest};
 ghost use Rattle.guest_core.specs.declared.GuestState.TheVariants as State;
-ghost use Rattle.guest.specs.Receive.{told, refused, accept_reset, accept_data, accept, after_push, receive_of};
+ghost use Rattle.guest.specs.Receive.{told, refused, accepted, received, accept, accept_reset, accept_data, after_push, receive_of};
 ghost use Rattle.guest.specs.Receive as receiving;
 
 use crate::checks::{check_data, check_reset};
 use guest_core::{GuestSession, GuestState};
-use outer::OUTER_MAX_PAYLOAD;
 use parser::push::push;
-use parser::{Place, Pushed, RecordParser};
+use parser::{Complete, Place, Pushed, RecordParser};
 use record::types::RecordType;
-use session::{Identity, identity_in, no_identity};
-use wire::{Refusal, Sequence};
+use session::checks::ready;
+use session::{After, Identity, Received, identity_in};
+use wire::Sequence;
+use wire::errors::Error;
 
-// What a receive reports. The identity of a reset stands beside it in the answer; the bytes of data
-// are had by `payload`.
+// What a receive reports. The bytes of data are had by `payload`.
 #[derive(Clone, Copy, Debug, PartialEq, Eq)]
 pub enum GuestEvent {
-    Nothing,
-    Reset,
-    Data,
-}
-
-// What `receive` answers. What the event does not use is zero.
-#[derive(Clone, Copy)]
-pub struct Received {
-    pub refusal: Refusal,
-    pub consumed: usize,
-    pub event: GuestEvent,
-    pub identity: Identity,
-    pub place: Place,
-    pub length: usize,
-    pub session: GuestSession,
+    Reset(Identity),
+    Data { place: Place, length: usize },
 }
 
 // Whether a guest receives in a state.
@@ -46,66 +35,6 @@ fn is_open(state: GuestState) -> bool
         state,
         GuestState::Attaching | GuestState::Resetting | GuestState::Active
     )
-}
-
-// A receive that is refused, with the session it leaves.
-fn refuse(session: GuestSession, refusal: Refusal) -> Received
-    ensures { result ≡ refused refusal session }
-{
-    Received {
-        refusal,
-        consumed: 0,
-        event: GuestEvent::Nothing,
-        identity: no_identity(),
-        place: Place::Piece(0),
-        length: 0,
-        session,
-    }
-}
-
-// The session in Failed, with the parser as the push left it.
-fn failed(session: GuestSession, parser: RecordParser) -> GuestSession
-    ensures { result ≡ with_state session State.Failed parser }
-{
-    let identity = session.identity;
-    let receive_sequence = session.receive_sequence;
-    let send_sequence = session.send_sequence;
-    GuestSession {
-        parser,
-        identity,
-        receive_sequence,
-        send_sequence,
-        window: session.window,
-        outstanding: session.outstanding,
-        state: GuestState::Failed,
-    }
-}
-
-// A receive that leaves Failed.
-fn fail(session: GuestSession, parser: RecordParser, refusal: Refusal) -> Received
-    ensures { result ≡ refused refusal (with_state session State.Failed parser) }
-{
-    refuse(failed(session, parser), refusal)
-}
-
-// A RESET: the session starts a new epoch.
-fn accept_reset(session: GuestSession, pushed: Pushed) -> Received
-    ensures { result ≡ (accept_reset session (told pushed)).answer }
-{
-    let refusal = check_reset(session.identity, pushed.record);
-    if refusal.number != 0 {
-        return fail(session, pushed.parser, refusal);
-    }
-    let identity = identity_in(pushed.record);
-    Received {
-        refusal: Refusal::none(),
-        consumed: pushed.consumed,
-        event: GuestEvent::Reset,
-        identity,
-        place: Place::Piece(0),
-        length: 0,
-        session: reset_session(pushed.parser, identity, pushed.record.sequence),
-    }
 }
 
 // The session after a RESET.
@@ -125,110 +54,133 @@ fn reset_session(parser: RecordParser, identity: Identity, sequence: Sequence) -
 }
 
 // The session after DATA of so many bytes.
-fn data_session(mut session: GuestSession, parser: RecordParser, length: usize) -> GuestSession
-    requires { (session.receive_sequence.0 < last_sequence) × (session.outstanding + length ≤ session.window) }
+pub(crate) fn data_session(
+    session: GuestSession,
+    parser: RecordParser,
+    length: usize,
+) -> GuestSession
+    requires { (session.receive_sequence.0 < last_sequence) × (session.outstanding + length < 2 ^ 32) }
     ensures { result ≡ data_guest session parser length }
 {
-    let next = Sequence(session.receive_sequence.0 + 1);
-    session.parser = parser;
-    session.receive_sequence = next;
-    session.outstanding = session.outstanding + length as u32;
-    session
+    GuestSession {
+        parser,
+        receive_sequence: Sequence(session.receive_sequence.0 + 1),
+        outstanding: session.outstanding + length as u32,
+        ..session
+    }
+}
+
+// A RESET: the session starts a new epoch.
+fn accept_reset(
+    session: GuestSession,
+    parser: RecordParser,
+    complete: Complete,
+) -> Result<(GuestSession, GuestEvent), Error>
+    ensures { (n : ℕ) → accepted session parser n result ≡ (accept_reset session (told (progressed (Some complete) n parser))).answer }
+{
+    let record = complete.record;
+    check_reset(session.identity, record)?;
+    let identity = identity_in(record);
+    let session = reset_session(parser, identity, record.sequence);
+    Ok((session, GuestEvent::Reset(identity)))
 }
 
 // DATA: its bytes are handed out.
-fn accept_data(session: GuestSession, pushed: Pushed) -> Received
-    requires { session.outstanding ≤ session.window }
-    ensures { result ≡ (accept_data session (told pushed)).answer }
+fn accept_data(
+    session: GuestSession,
+    parser: RecordParser,
+    complete: Complete,
+) -> Result<(GuestSession, GuestEvent), Error>
+    ensures { (n : ℕ) → accepted session parser n result ≡ (accept_data session (told (progressed (Some complete) n parser))).answer }
 {
-    let refusal = check_data(session, pushed.record);
-    if refusal.number != 0 {
-        return fail(session, pushed.parser, refusal);
-    }
-    let place = pushed.place;
-    Received {
-        refusal: Refusal::none(),
-        consumed: pushed.consumed,
-        event: GuestEvent::Data,
-        identity: no_identity(),
-        place,
-        length: pushed.record.length,
-        session: data_session(session, pushed.parser, pushed.record.length),
-    }
+    check_data(session, complete.record)?;
+    let length = complete.record.length;
+    let session = data_session(session, parser, length);
+    let place = complete.place;
+    Ok((session, GuestEvent::Data { place, length }))
 }
 
-// Whether a guest in a state takes records of a type: Reset, or Data when Active.
-fn is_taken(state: GuestState, kind: RecordType) -> bool
-    ensures { result ≡ eqb (code_of kind) 3 || (is_active state && eqb (code_of kind) 5) }
+// A whole record: a RESET, DATA when Active, or 10.
+fn accept_record(
+    session: GuestSession,
+    parser: RecordParser,
+    complete: Complete,
+) -> Result<(GuestSession, GuestEvent), Error>
+    ensures { (n : ℕ) → accepted session parser n result ≡ (accept session (told (progressed (Some complete) n parser))).answer }
 {
-    match kind {
-        RecordType::Reset => true,
-        RecordType::Data => state == GuestState::Active,
-        _ => false,
+    let kind = complete.record.record_type;
+    if kind == RecordType::Reset {
+        return accept_reset(session, parser, complete);
     }
+    if kind == RecordType::Data && session.state == GuestState::Active {
+        return accept_data(session, parser, complete);
+    }
+    Err(Error::Unexpected(kind.code()))
 }
 
-// A whole record: 10, then by its type.
-fn accept_record(session: GuestSession, pushed: Pushed) -> Received
-    requires { session.outstanding ≤ session.window }
-    ensures { result ≡ (accept session (told pushed)).answer }
+// A receive that leaves Failed. The host has this and `after_push` over its own session: one function
+// for both would need a trait whose laws are the rules of both ends, which is longer than the two.
+fn fail(
+    session: GuestSession,
+    parser: RecordParser,
+    error: Error,
+) -> After<GuestSession, Received<GuestEvent>>
+    ensures { received result ≡ refused (refusal_of error) (with_state session State.Failed parser) }
 {
-    let kind = pushed.record.record_type;
-    if !is_taken(session.state, kind) {
-        return fail(
-            session,
-            pushed.parser,
-            Refusal::new(10, kind.code() as u64, 0, 0),
-        );
-    }
-    match kind {
-        RecordType::Reset => accept_reset(session, pushed),
-        _ => accept_data(session, pushed),
+    After {
+        answer: Err(error),
+        session: GuestSession {
+            parser,
+            state: GuestState::Failed,
+            ..session
+        },
     }
 }
 
 // After the push: its refusal, no record yet, or a whole record.
-fn after_push(session: GuestSession, pushed: Pushed) -> Received
-    requires { session.outstanding ≤ session.window }
-    ensures { result ≡ (after_push session (told pushed)).answer }
+fn after_push(session: GuestSession, pushed: Pushed) -> After<GuestSession, Received<GuestEvent>>
+    ensures { received result ≡ (after_push session (told (pushing.pushed pushed))).answer }
 {
-    if pushed.refusal.number != 0 {
-        return fail(session, pushed.parser, pushed.refusal);
+    let parser = pushed.parser;
+    let progress = match pushed.answer {
+        Ok(progress) => progress,
+        Err(error) => return fail(session, parser, error),
+    };
+    let consumed = progress.consumed;
+    let Some(complete) = progress.complete else {
+        return After {
+            answer: Ok(Received {
+                consumed,
+                event: None,
+            }),
+            session: GuestSession { parser, ..session },
+        };
+    };
+    match accept_record(session, parser, complete) {
+        Ok((session, event)) => After {
+            answer: Ok(Received {
+                consumed,
+                event: Some(event),
+            }),
+            session,
+        },
+        Err(error) => fail(session, parser, error),
     }
-    if pushed.complete {
-        return accept_record(session, pushed);
-    }
-    Received {
-        refusal: Refusal::none(),
-        consumed: pushed.consumed,
-        event: GuestEvent::Nothing,
-        identity: no_identity(),
-        place: Place::Piece(0),
-        length: 0,
-        session: with_parser(session, pushed.parser),
-    }
-}
-
-// The session with another parser.
-fn with_parser(mut session: GuestSession, parser: RecordParser) -> GuestSession
-    ensures { result ≡ with_state session session.state parser }
-{
-    session.parser = parser;
-    session
 }
 
 // Any receive: what stops it, then the push and what it says.
-pub(crate) fn receive_any(session: GuestSession, piece: &[u8], stage: &mut [u8]) -> Received
-    ensures { receiving.outcome result stage.new ≡ receive_of session piece.now stage.old }
+pub(crate) fn receive_any(
+    session: GuestSession,
+    piece: &[u8],
+    stage: &mut [u8],
+) -> After<GuestSession, Received<GuestEvent>>
+    ensures { receiving.outcome (received result) stage.new ≡ receive_of session piece.now stage.old }
 {
-    if !session.is_sound() {
-        return refuse(session, Refusal::new(23, 0, 0, 0));
+    match ready(session.is_sound(), stage.len(), is_open(session.state)) {
+        Ok(()) => after_push(session, push(session.parser, piece, stage)),
+        Err(error) => After {
+            answer: Err(error),
+            session,
+        },
     }
-    if stage.len() < OUTER_MAX_PAYLOAD {
-        return refuse(session, Refusal::new(21, 0, 0, 0));
-    }
-    if !is_open(session.state) {
-        return refuse(session, Refusal::new(20, 0, 0, 0));
-    }
-    after_push(session, push(session.parser, piece, stage))
 }

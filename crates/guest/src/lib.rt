@@ -7,16 +7,13 @@ mod accept;
 mod checks;
 mod fast;
 
-pub use crate::accept::{GuestEvent, Received};
+pub use crate::accept::GuestEvent;
 pub use crate::fast::receive;
-pub use guest_core::answers::Sent;
-pub use guest_core::asks::{
-    IdentityAnswer, OutstandingAnswer, StateAnswer, WindowAnswer, identity, needed, outstanding,
-    state, window,
-};
-pub use guest_core::control::{Closed, acknowledge, attach, disconnect};
+pub use guest_core::asks::{identity, needed, outstanding, state, window};
+pub use guest_core::control::{acknowledge, attach, disconnect};
 pub use guest_core::send::{credit, send};
 pub use guest_core::{GuestSession, GuestState};
-pub use parser::{Count, Place, payload};
-pub use session::Identity;
+pub use parser::{Place, payload};
+pub use session::{After, Identity, Received, Sent};
+pub use wire::errors::Error;
 pub use wire::{Epoch, Refusal, Sequence};

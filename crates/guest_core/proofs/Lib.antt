@@ -1,6 +1,5 @@
 pub mod States
 pub mod Soundness
-pub mod Asking
 pub mod Writing
 pub mod Calling
 pub mod Sending

@@ -1,51 +1,32 @@
--- The cases of every call that writes: what stops it, nothing written, written. Assumes nothing.
-use Prim.Native.Nat.{ℕ, ◌+◌, ◌^◌, ◌<◌}
+-- The calls that write, by what the writer of their record answers: stopped, or the record and the session after it. Assumes nothing.
+use Prim.Native.Nat.{ℕ, ◌^◌, ◌<◌}
 use mathlib.Core.Path.{◌≡◌, refl, sym, ap, ◌∙◌}
 use mathlib.Core.Bool.{Bool, true, false}
 use mathlib.Core.List.{List, [], ◌∷◌, ◌++◌}
 use lib.ListN.{length}
 use lib.Dec.{eqb}
-use borrow.Author.Tests.{eq-eqb, ne_eqb}
-use Rattle.wire.specs.Bytes.{to_le, overlay}
-use Rattle.wire.specs.Refusals.{refusal, first, passes}
-use Rattle.outer.specs.Outer.{value_of, write}
-use Rattle.outer.specs.Outer as outer
+use borrow.Author.Tests.{eq-eqb, eqb-true, eqb-false}
+use Rattle.std.specs.Prelude.{Ok, Err}
+use Rattle.wire.specs.Bytes.{to_le}
+use Rattle.wire.specs.Refusals.{pick, refusal, none, refusal_of, first, passes}
 use Rattle.wire.specs.declared.Refusal.{Refusal}
-use Rattle.outer.specs.Outer.{Written}
+use Rattle.wire.specs.declared.errors.Error.{Error}
 use Rattle.wire.proofs.NumberLaws.{from_to, length_to}
-use Rattle.wire.proofs.Rows.{passed, rows_stop, rows_pass}
-use Rattle.outer.proofs.Writes.{write_stops, write_done}
+use Rattle.wire.proofs.Rows.{Numbered, refuses, rows_stop, rows_pass}
+use Rattle.outer.specs.Outer.{value_of, written, write}
+use Rattle.outer.specs.Outer as outer
+use Rattle.session.specs.Checks.{held}
+use Rattle.session.specs.Writes.{identity_bytes, next_rows, not_encoded, encoded, encode_next}
+use Rattle.session.specs.Writes as writing
+use Rattle.session.specs.declared.next.Encoded as code
 use Rattle.session.proofs.Stopping.{begin_rows}
-use Rattle.guest_core.specs.State.{code, sound_guest}
+use Rattle.guest_core.specs.State.{code, sound_guest, with_sent, sent_guest}
+use Rattle.guest_core.specs.Writes.{sound_row, Outcome, outcome, not_sent, sent_record, writes}
 use Rattle.guest_core.specs.declared.GuestState.{GuestState}
 use Rattle.guest_core.specs.declared.GuestSession.{GuestSession}
-use Rattle.guest_core.specs.Writes.{sound_row, outcome, not_sent, sent_record, writes}
-use Rattle.guest_core.specs.declared.answers.Sent.{Sent}
 use Rattle.guest_core.proofs.States.{same_state, same_is}
 
-module _ (v : Refusal) (g after : GuestSession) (count : ℕ) (bytes o : List ℕ) (at : ℕ) (r : Sent) where
-  -- stopped with nothing written
-  pub stops : (x : Refusal) → x ≡ v → (x.number ≡ 0 → ⊥) → r ≡ not_sent x g → outcome r o ≡ writes v g after count bytes o at
-  unfolding writes
-  stops x ex n er =
-      let f : passes v ≡ false = ap passes (sym ex) ∙ ne_eqb x.number 0 n in
-      simp f (ap (λ (s : Sent). outcome s o) (er ∙ ap (λ (y : Refusal). not_sent y g) ex))
-
-  -- written
-  pub does : (o2 : List ℕ) (next n : ℕ) (s : GuestSession) → passes v ≡ true → s ≡ after → n ≡ count → next ≡ at + length bytes → o2 ≡ overlay o at bytes
-      → r ≡ sent_record n next s → outcome r o2 ≡ writes v g after count bytes o at
-  unfolding writes
-  does o2 next n s f es en ex eo er = simp f (λ j. outcome ((er ∙ (λ k. sent_record (en k) (ex k) (es k))) j) (eo j))
-
-  -- by the encoder's answer
-  module _ (w : Written) (o2 : List ℕ) (ew : outer.outcome w o2 ≡ write v bytes o at) where
-    pub written_stops : (w.refusal.number ≡ 0 → ⊥) → r ≡ not_sent w.refusal g → outcome r o2 ≡ writes v g after count bytes o at
-    written_stops n er = let q = write_stops w v bytes o o2 at ew n in ap (outcome r) q.1 ∙ stops w.refusal q.0 n er
-
-    pub written_does : (s : GuestSession) → w.refusal.number ≡ 0 → s ≡ after → r ≡ sent_record count w.next s → outcome r o2 ≡ writes v g after count bytes o at
-    written_does s n es er = let q = write_done w v bytes o o2 at ew n in does o2 w.next count s q.0 es refl q.1 q.2 er
-
--- 23 and 20 come first in each: `stopped`
+-- ---- 23 and 20 come first in each: `stopped`
 abbrev pub begin : GuestSession → ℕ → List (Bool × Refusal)
 begin g state = sound_row g ∷ (eqb (code g.state) state, refusal 20 0 0 0) ∷ []
 
@@ -54,16 +35,97 @@ pub told_of : (g : GuestSession) (state : GuestState) (b k : Bool) (x : Refusal)
     → x ≡ first (begin g (code state))
 told_of g state b k x eb ek ex = ex ∙ (λ j. first (begin_rows (eb j) ((ek ∙ same_is g.state state) j)))
 
-module _ (g after : GuestSession) (count : ℕ) (bytes o : List ℕ) (at : ℕ) (r : Sent) (state : ℕ) (rows : List (Bool × Refusal)) (x : Refusal) (ex : x ≡ first (begin g state)) where
-  pub call_stops : (x.number ≡ 0 → ⊥) → r ≡ not_sent x g → outcome r o ≡ writes (first (begin g state ++ rows)) g after count bytes o at
-  call_stops n er = stops _ g after count bytes o at r x (rows_stop (begin g state) rows x ex n) n er
+-- ---- a record written
+pub write_err : (v : Refusal) (bytes o : List ℕ) (at : ℕ) (e : Error) → refusal_of e ≡ v → outer.outcome (written (Err e)) o ≡ write v bytes o at
+unfolding write
+write_err v bytes o at e q =
+    let f : passes v ≡ false = ap passes (sym q) ∙ refuses e in
+    simp f (ap (λ (r : Refusal). outer.outcome (record { refusal = r; next = 0 }) o) q)
 
-module _ (g : GuestSession) (state : ℕ) (x : Refusal) (ex : x ≡ first (begin g state)) (z : x.number ≡ 0) where
-  pub goes_on : (rows : List (Bool × Refusal)) (y : Refusal) → y ≡ first rows → y ≡ first (begin g state ++ rows)
-  goes_on rows y q = rows_pass (begin g state) rows x y (refl, (refl, tt)) ex z q
+module _ (g after : GuestSession) where
+  -- the call's answer by the writer's
+  abbrev by_written : outer.Outcome → Outcome
+  by_written x = pick (passes x.answer.refusal) (outcome (sent_record 0 x.answer.next after) x.output) (outcome (not_sent x.answer.refusal g) x.output)
 
-  pub begins_sound : sound_guest g ≡ true
-  begins_sound = (passed (begin g state) (refl, (refl, tt)) (ap passes (sym ex) ∙ eq-eqb x.number 0 z)).0
+  module _ (v : Refusal) (bytes o : List ℕ) (at : ℕ) where
+    by_write : by_written (write v bytes o at) ≡ writes v g after 0 bytes o at
+    unfolding write writes
+    by_write = go (passes v) refl
+      where
+        go : (c : Bool) → passes v ≡ c → by_written (write v bytes o at) ≡ writes v g after 0 bytes o at
+        go true f = simp f
+        go false f = simp f
+
+    pub written_ok : (k : ℕ) (o2 : List ℕ) (s : GuestSession) → outer.outcome (written (Ok k)) o2 ≡ write v bytes o at → s ≡ after
+        → outcome (sent_record 0 k s) o2 ≡ writes v g after 0 bytes o at
+    written_ok k o2 s e es = ap (λ (x : GuestSession). outcome (sent_record 0 k x) o2) es ∙ ap by_written e ∙ by_write
+
+    pub written_err : (e : Error) (o2 : List ℕ) → outer.outcome (written (Err e)) o2 ≡ write v bytes o at → outcome (not_sent (refusal_of e) g) o2 ≡ writes v g after 0 bytes o at
+    written_err e o2 q =
+        let s : by_written (outer.outcome (written (Err e)) o2) ≡ outcome (not_sent (refusal_of e) g) o2 = simp (refuses e) in
+        sym s ∙ ap by_written q ∙ by_write
+
+-- ---- the next record encoded, behind rows of its own
+module _ (front : List (Bool × Refusal)) (s : ℕ) (o : List ℕ) (x : writing.Outcome) where
+  abbrev pub behind : writing.Outcome
+  behind = pick (passes (first front)) x (writing.outcome (not_encoded (first front) s) o)
+
+  pub behind_err : (e : Error) → refusal_of e ≡ first front → writing.outcome (encoded s (Err e)) o ≡ behind
+  behind_err e q =
+      let f : passes (first front) ≡ false = ap passes (sym q) ∙ refuses e in
+      simp f (ap (λ (r : Refusal). writing.outcome (not_encoded r s) o) q)
+
+  pub behind_ok : (y : writing.Outcome) → none ≡ first front → y ≡ x → y ≡ behind
+  behind_ok y q e = let f : passes (first front) ≡ true = ap passes (sym q) in simp f e
+
+module _ (g : GuestSession) (outstanding : ℕ) where
+  -- the call's answer by the encoder's
+  abbrev pub by_encoded : writing.Outcome → Outcome
+  by_encoded x =
+      pick (passes x.encoded.refusal)
+      (outcome (sent_record x.encoded.count x.encoded.next (with_sent g x.encoded.sequence.0 outstanding)) x.output)
+      (outcome (not_sent x.encoded.refusal g) x.output)
+
+  module _ (x : writing.Outcome) (y : Outcome) (b : by_encoded x ≡ y) where
+    pub encoded_ok : (u : code.Encoded) (o2 : List ℕ) → writing.outcome (encoded g.send_sequence.0 (Ok u)) o2 ≡ x
+        → outcome (sent_record u.sent.count u.sent.next (with_sent g u.sequence.0 outstanding)) o2 ≡ y
+    encoded_ok u o2 e = ap by_encoded e ∙ b
+
+    pub encoded_err : (e : Error) (o2 : List ℕ) → writing.outcome (encoded g.send_sequence.0 (Err e)) o2 ≡ x → outcome (not_sent (refusal_of e) g) o2 ≡ y
+    encoded_err e o2 q =
+        let s : by_encoded (writing.outcome (encoded g.send_sequence.0 (Err e)) o2) ≡ outcome (not_sent (refusal_of e) g) o2 = simp (refuses e) in
+        sym s ∙ ap by_encoded q ∙ b
+
+  module _ (t count : ℕ) (p o : List ℕ) (at : ℕ) where
+    abbrev record_writes : Refusal → Outcome
+    record_writes r = writes r g (sent_guest g outstanding) count (identity_bytes t (held g.identity) g.send_sequence.0 p) o at
+
+    abbrev encodes : writing.Outcome
+    encodes = encode_next t (held g.identity) g.send_sequence.0 count p o at
+
+    abbrev rows : List (Bool × Refusal)
+    rows = next_rows t (held g.identity) g.send_sequence.0 p o at
+
+    by_next : by_encoded encodes ≡ record_writes (first rows)
+    unfolding encode_next writes
+    by_next = go (passes (first rows)) refl
+      where
+        go : (c : Bool) → passes (first rows) ≡ c → by_encoded encodes ≡ record_writes (first rows)
+        go true f = simp f
+        go false f = simp f
+
+    pub by_behind : (front rest : List (Bool × Refusal)) → Numbered front → (passes (first front) ≡ true → first rows ≡ first rest)
+        → by_encoded (behind front g.send_sequence.0 o encodes) ≡ record_writes (first (front ++ rest))
+    unfolding writes
+    by_behind front rest m h = go (passes (first front)) refl
+      where
+        go : (c : Bool) → passes (first front) ≡ c → by_encoded (pick c encodes (writing.outcome (not_encoded (first front) g.send_sequence.0) o)) ≡ record_writes (first (front ++ rest))
+        go true f = by_next ∙ ap record_writes (rows_pass front rest (first front) (first rows) m refl (eqb-true (first front).number 0 f) (h f))
+        go false f =
+            let e : first front ≡ first (front ++ rest) = rows_stop front rest (first front) refl (eqb-false (first front).number 0 f) in
+            let k : record_writes (first front) ≡ outcome (not_sent (first front) g) o = simp f in
+            let s : by_encoded (writing.outcome (not_encoded (first front) g.send_sequence.0) o) ≡ outcome (not_sent (first front) g) o = simp f in
+            s ∙ sym k ∙ ap record_writes e
 
 -- a number of four bytes is the value of those bytes
 pub value_back : (n : ℕ) → n < 2 ^ 32 → value_of (to_le 4 n) ≡ n

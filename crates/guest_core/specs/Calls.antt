@@ -1,7 +1,7 @@
 -- The rules of a guest's attach, acknowledge and disconnect (01, "Guest" and "What stops each operation").
 use Rattle.std.specs.Prelude.{ℕ, Bool, List, [], ◌∷◌, replicate, eqb}
 use Rattle.wire.specs.Bytes.{to_le}
-use Rattle.wire.specs.Refusals.{pick, refusal, none, first}
+use Rattle.wire.specs.Refusals.{pick, refusal, none, verdict, first}
 use Rattle.outer.specs.Outer.{window_ok, room_row}
 use Rattle.wire.specs.declared.Refusal.{Refusal}
 use Rattle.record.specs.Record.{record_bytes}
@@ -12,7 +12,7 @@ use Rattle.guest_core.specs.State.{is_detached, is_resetting, is_ended, sound_gu
 use Rattle.guest_core.specs.declared.GuestState.TheVariants as State
 use Rattle.guest_core.specs.declared.GuestSession.{GuestSession}
 use Rattle.guest_core.specs.Writes.{sound_row, Outcome, writes}
-use Rattle.guest_core.specs.declared.control.Closed.{Closed}
+use Rattle.session.specs.declared.After.{After}
 
 -- ---- calls that write
 -- attach: 20 not Detached; 22
@@ -31,6 +31,14 @@ unfoldable pub acknowledge : GuestSession → ℕ → List ℕ → ℕ → Outco
 acknowledge g w o at = writes (first (ack_rows g w o at)) g (ack_guest g w) 0 (identity_bytes 4 (held g.identity) 0 (to_le 4 w)) o at
 
 -- ---- disconnect
+-- what it answers: what is refused, and the session after it
+pub record Closed : Type 0 where
+  pub refusal : Refusal
+  pub session : GuestSession
+
+abbrev pub closed : After GuestSession (Unit {0}) → Closed
+closed a = record { refusal = verdict a.answer; session = a.session }
+
 -- in Closed or Failed it succeeds and does nothing; else 19 bytes buffered (a count) leaves Failed, or it leads to Closed
 unfoldable pub disconnect : GuestSession → Closed
 disconnect g =

@@ -5,7 +5,7 @@ use Rattle.wire.specs.Refusals.{pick, refusal, first, passes}
 use Rattle.outer.specs.Outer.{max_payload, room_row}
 use Rattle.wire.specs.declared.Refusal.{Refusal}
 use Rattle.session.specs.Checks.{held, next_row}
-use Rattle.session.specs.Writes.{identity_bytes, not_encoded, encode_data}
+use Rattle.session.specs.Writes.{identity_bytes, not_encoded, encode_next, encode_data}
 use Rattle.session.specs.Writes as writing
 use Rattle.guest_core.specs.State.{is_active, sent_guest}
 use Rattle.guest_core.specs.declared.GuestSession.{GuestSession}
@@ -41,15 +41,23 @@ encoding g bytes o at =
 abbrev pub write_rows : GuestSession → List ℕ → ℕ → List (Bool × Refusal)
 write_rows g o at = next_row 9 g.send_sequence.0 ∷ room_row o at 48 ∷ []
 
--- credit: 20; 18 amount 0 or above outstanding (a outstanding, b amount); 16 (a 9); 22
+-- 18 amount 0 or above outstanding (a outstanding, b amount)
+abbrev pub covered_row : GuestSession → ℕ → (Bool × Refusal)
+covered_row g n = (leb 1 n && leb n g.outstanding, refusal 18 g.outstanding n 0)
+
+-- credit: 20; 18; 16 (a 9); 22
 abbrev pub credit_rows : GuestSession → ℕ → List ℕ → ℕ → List (Bool × Refusal)
-credit_rows g n o at =
-    sound_row g ∷
-    (is_active g.state, refusal 20 0 0 0) ∷
-    (leb 1 n && leb n g.outstanding, refusal 18 g.outstanding n 0) ∷
-    write_rows g o at
+credit_rows g n o at = sound_row g ∷ (is_active g.state, refusal 20 0 0 0) ∷ covered_row g n ∷ write_rows g o at
 
 unfoldable pub credit : GuestSession → ℕ → List ℕ → ℕ → Outcome
 credit g n o at =
     writes (first (credit_rows g n o at)) g (sent_guest g (g.outstanding - n)) 0
     (identity_bytes 9 (held g.identity) g.send_sequence.0 (to_le 4 n)) o at
+
+-- what a credit encodes: 23, 20, 18, then the encoder of the next record
+unfoldable pub crediting : GuestSession → ℕ → List ℕ → ℕ → writing.Outcome
+crediting g n o at =
+    let r : Refusal = first (sound_row g ∷ (is_active g.state, refusal 20 0 0 0) ∷ covered_row g n ∷ []) in
+    pick (passes r)
+    (encode_next 9 (held g.identity) g.send_sequence.0 0 (to_le 4 n) o at)
+    (writing.outcome (not_encoded r g.send_sequence.0) o)

@@ -1,127 +1,55 @@
 // What a guest's session answers when asked (01, "Guest"): 23, or the value. Nothing changes.
 ghost use Rattle.std.specs.Prelude.{◌≡◌};
-ghost use Rattle.guest_core.specs.Asks.{state_of, identity_of, window_of, no_window, outstanding_of, needed_by};
+ghost use Rattle.parser.specs.Push.{count_of};
+ghost use Rattle.guest_core.specs.Asks.{state_told, state_of, identity_told, identity_of, window_told, window_of, outstanding_told, outstanding_of, needed_by};
 
 use crate::{GuestSession, GuestState};
-use parser::Count;
-use session::Identity;
-use wire::Refusal;
-
-// What `state` answers.
-#[derive(Clone, Copy)]
-pub struct StateAnswer {
-    pub refusal: Refusal,
-    pub state: GuestState,
-}
-
-// What `identity` answers.
-#[derive(Clone, Copy)]
-pub struct IdentityAnswer {
-    pub refusal: Refusal,
-    pub identity: Option<Identity>,
-}
-
-// What `window` answers: none unless Active.
-#[derive(Clone, Copy)]
-pub struct WindowAnswer {
-    pub refusal: Refusal,
-    pub present: bool,
-    pub window: u32,
-}
-
-// What `outstanding` answers.
-#[derive(Clone, Copy)]
-pub struct OutstandingAnswer {
-    pub refusal: Refusal,
-    pub outstanding: u32,
-}
-
-// No window is told.
-fn no_window(refusal: Refusal) -> WindowAnswer
-    ensures { result ≡ no_window refusal }
-{
-    WindowAnswer {
-        refusal,
-        present: false,
-        window: 0,
-    }
-}
+use session::{Identity, asked};
+use wire::errors::Error;
 
 // The session's state.
-pub fn state(session: GuestSession) -> StateAnswer
-    ensures { result ≡ state_of session }
+#[tactic(auto, unfolding(crate::specs::Asks::state_of))]
+pub fn state(session: GuestSession) -> Result<GuestState, Error>
+    ensures { state_told result ≡ state_of session }
 {
-    let state = session.state;
-    if session.is_sound() {
-        return StateAnswer {
-            refusal: Refusal::none(),
-            state,
-        };
-    }
-    StateAnswer {
-        refusal: Refusal::new(23, 0, 0, 0),
-        state: GuestState::Detached,
-    }
+    asked(session.is_sound(), session.state)
 }
 
 // The identity that the session holds.
-pub fn identity(session: GuestSession) -> IdentityAnswer
-    ensures { result ≡ identity_of session }
+#[tactic(auto, unfolding(crate::specs::Asks::identity_of))]
+pub fn identity(session: GuestSession) -> Result<Option<Identity>, Error>
+    ensures { identity_told result ≡ identity_of session }
 {
-    if session.is_sound() {
-        return IdentityAnswer {
-            refusal: Refusal::none(),
-            identity: session.identity,
-        };
-    }
-    IdentityAnswer {
-        refusal: Refusal::new(23, 0, 0, 0),
-        identity: None,
-    }
+    asked(session.is_sound(), session.identity)
 }
 
 // The receive window, none unless Active.
-pub fn window(session: GuestSession) -> WindowAnswer
-    ensures { result ≡ window_of session }
+#[tactic(auto, unfolding(crate::specs::Asks::window_of))]
+pub fn window(session: GuestSession) -> Result<Option<u32>, Error>
+    ensures { window_told result ≡ window_of session }
 {
-    if !session.is_sound() {
-        return no_window(Refusal::new(23, 0, 0, 0));
-    }
-    if session.state == GuestState::Active {
-        return WindowAnswer {
-            refusal: Refusal::none(),
-            present: true,
-            window: session.window,
-        };
-    }
-    no_window(Refusal::none())
+    let window = match session.state {
+        GuestState::Active => Some(session.window),
+        _ => None,
+    };
+    asked(session.is_sound(), window)
 }
 
 // The bytes handed out and not credited.
-pub fn outstanding(session: GuestSession) -> OutstandingAnswer
-    ensures { result ≡ outstanding_of session }
+#[tactic(auto, unfolding(crate::specs::Asks::outstanding_of))]
+pub fn outstanding(session: GuestSession) -> Result<u32, Error>
+    ensures { outstanding_told result ≡ outstanding_of session }
 {
-    if session.is_sound() {
-        return OutstandingAnswer {
-            refusal: Refusal::none(),
-            outstanding: session.outstanding,
-        };
-    }
-    OutstandingAnswer {
-        refusal: Refusal::new(23, 0, 0, 0),
-        outstanding: 0,
-    }
+    asked(session.is_sound(), session.outstanding)
 }
 
 // How many more bytes complete the header or the payload in progress.
-pub fn needed(session: GuestSession) -> Count
-    ensures { result ≡ needed_by session }
+#[tactic(auto, using(crate::proofs::Soundness::sound_inside), unfolding(crate::specs::Asks::needed_by, parser::specs::Push::counted))]
+pub fn needed(session: GuestSession) -> Result<usize, Error>
+    ensures { count_of result ≡ needed_by session }
 {
     if !session.is_sound() {
-        return Count {
-            refusal: Refusal::new(23, 0, 0, 0),
-            count: 0,
-        };
+        return Err(Error::Unsound);
     }
     session.parser.needed()
 }

@@ -3,14 +3,13 @@
 // guest's program opens, passes all of this on and adds `receive`.
 #![tactic(auto)]
 
-pub mod answers;
 pub mod asks;
 pub mod control;
 pub mod send;
 
 ghost use Rattle.std.specs.Prelude.{◌≡◌, not, ◌||◌};
 ghost use Rattle.session.specs.Checks.{holds};
-ghost use Rattle.guest_core.specs.State.{code, is_live, is_ended, fresh_guest, sound_guest, active_guest, figures_ok, with_state};
+ghost use Rattle.guest_core.specs.State.{code, is_live, is_ended, fresh_guest, sound_guest, active_guest, figures_ok};
 
 use outer::payloads::OUTER_MAX_RECEIVE_WINDOW;
 use parser::RecordParser;
@@ -42,7 +41,7 @@ pub struct GuestSession {
 }
 
 impl GuestState {
-    // The state's number, from 0 in 01's order.
+    // The state's number, from 0 in 01's order, written out as 01 has it.
     pub fn number(self) -> u8
         ensures { result ≡ code self }
     {
@@ -75,19 +74,14 @@ fn identity_ok(state: GuestState, identity: Option<Identity>) -> bool
 }
 
 // Whether window, outstanding and identity fit each other and the state.
+#[tactic(auto, using(std::proofs::lemmas::Bool::Decides::nat_tests, crate::proofs::States::same_is))]
 fn figures_ok(state: GuestState, window: u32, outstanding: u32, identity: Option<Identity>) -> bool
     ensures { result ≡ figures_ok state window outstanding identity }
 {
-    if window < outstanding {
-        return false;
-    }
-    if OUTER_MAX_RECEIVE_WINDOW < window {
-        return false;
-    }
-    if state == GuestState::Resetting && window != 0 {
-        return false;
-    }
-    identity_ok(state, identity)
+    outstanding <= window
+        && window <= OUTER_MAX_RECEIVE_WINDOW
+        && (state != GuestState::Resetting || window == 0)
+        && identity_ok(state, identity)
 }
 
 impl GuestSession {
@@ -107,47 +101,23 @@ impl GuestSession {
     }
 
     // Whether the value is one that a session can have (01, 23).
+    #[tactic(auto, unfolding(crate::specs::State::sound_guest))]
     pub fn is_sound(self) -> bool
         ensures { result ≡ sound_guest self }
     {
-        if !self.parser.is_sound() {
-            return false;
-        }
-        figures_ok(self.state, self.window, self.outstanding, self.identity)
+        self.parser.is_sound()
+            && figures_ok(self.state, self.window, self.outstanding, self.identity)
     }
 
     // Whether the session is Active, and sound but for its parser: the commonest sessions, told by
     // few tests.
+    #[tactic(auto, using(std::proofs::lemmas::Bool::Decides::nat_tests, crate::proofs::States::same_is), unfolding(crate::specs::State::active_guest))]
     pub fn is_active(self) -> bool
         ensures { result ≡ active_guest self }
     {
-        if self.state != GuestState::Active {
-            return false;
-        }
-        if self.window < self.outstanding {
-            return false;
-        }
-        if OUTER_MAX_RECEIVE_WINDOW < self.window {
-            return false;
-        }
-        is_held(self.identity)
-    }
-
-    // The session in another state with another parser.
-    pub(crate) fn with_state(self, state: GuestState, parser: RecordParser) -> GuestSession
-        ensures { result ≡ with_state self state parser }
-    {
-        let identity = self.identity;
-        let receive_sequence = self.receive_sequence;
-        let send_sequence = self.send_sequence;
-        GuestSession {
-            parser,
-            identity,
-            receive_sequence,
-            send_sequence,
-            window: self.window,
-            outstanding: self.outstanding,
-            state,
-        }
+        self.state == GuestState::Active
+            && self.outstanding <= self.window
+            && self.window <= OUTER_MAX_RECEIVE_WINDOW
+            && is_held(self.identity)
     }
 }

@@ -1,6 +1,5 @@
 pub mod States
 pub mod Soundness
-pub mod Asking
 pub mod Checking
 pub mod Calling
 pub mod Receiving

@@ -1,5 +1,6 @@
 pub mod State
 pub mod Asks
 pub mod Checks
+pub mod Event
 pub mod Calls
 pub mod Receive

@@ -1,28 +1,42 @@
 -- The rule of a host's receive (01, "receive"). What it answers depends on the stage only by its length and by `held`, the payload bytes
 -- that have come; what it leaves in the stage is a rule of its own, `receive_stage`.
-use Rattle.std.specs.Prelude.{ℕ, Bool, List, [], ◌∷◌, length, leb, Option, Some}
-use Rattle.wire.specs.Refusals.{pick, refusal, none, first, passes}
+use Rattle.std.specs.Prelude.{ℕ, Bool, List, [], ◌∷◌, length, leb, Option, Some, None, Result, Ok, Err}
+use Rattle.wire.specs.Refusals.{pick, refusal, none, refusal_of, first, passes}
 use Rattle.outer.specs.Outer.{max_payload}
 use Rattle.wire.specs.declared.Refusal.{Refusal}
+use Rattle.wire.specs.declared.errors.Error.{Error}
 use Rattle.record.specs.declared.types.RecordType.{RecordType}
 use Rattle.record.specs.declared.types.RecordType.TheVariants as Kind
 use Rattle.record.specs.declared.Record.{Record}
-use Rattle.parser.specs.Push.{Push, push, push_stage, held_in}
+use Rattle.parser.specs.Push.{Pushed, Push, push, push_stage, held_in}
 use Rattle.parser.specs.declared.Place.{Place}
 use Rattle.parser.specs.declared.Place.TheVariants.{Piece}
-use Rattle.parser.specs.declared.Pushed.{Pushed}
+use Rattle.parser.specs.declared.RecordParser.{RecordParser}
 use Rattle.session.specs.Checks.{no_identity, identity_of}
 use Rattle.session.specs.declared.Identity.{Identity}
+use Rattle.session.specs.declared.After.{After}
+use Rattle.session.specs.declared.Received as code
 use Rattle.host.specs.State.{is_open, sound_host, with_state, next_host}
 use Rattle.host.specs.declared.HostState.{HostState}
 use Rattle.host.specs.declared.HostState.TheVariants as State
 use Rattle.host.specs.Checks.{record_rows}
-use Rattle.host.specs.declared.accept.HostEvent.{HostEvent}
-use Rattle.host.specs.declared.accept.HostEvent.TheVariants as Event
+use Rattle.host.specs.Event.{HostEvent}
+use Rattle.host.specs.Event as Event
+use Rattle.host.specs.declared.accept.HostEvent as code-event
+use Rattle.host.specs.declared.accept.HostEvent.TheVariants as Told
 use Rattle.host.specs.declared.HostSession.{HostSession}
-use Rattle.host.specs.declared.accept.Received.{Received}
 
 -- ---- the answers
+-- what a receive answers: what is refused, the bytes taken, the event with what it reports, and the session after it
+pub record Received : Type 0 where
+  pub refusal : Refusal
+  pub consumed : ℕ
+  pub event : HostEvent
+  pub identity : Identity
+  pub place : Place
+  pub length : ℕ
+  pub session : HostSession
+
 -- what a receive does: its answer, the payload bytes held afterwards, and the payload handed out ([] where there is none)
 pub record Receive : Type 0 where
   pub answer : Received
@@ -40,6 +54,29 @@ answered r consumed event i place n h =
 abbrev pub refused : Refusal → HostSession → Received
 refused r h = answered r 0 Event.Nothing no_identity (Piece 0) 0 h
 
+-- ---- the answers of the code
+-- an event with what it reports: the identity of READY and RESET, or where the bytes of data lie
+abbrev pub reported : Option code-event.HostEvent → ℕ → HostSession → Received
+reported None consumed h = answered none consumed Event.Nothing no_identity (Piece 0) 0 h
+reported (Some Told.Wait) consumed h = answered none consumed Event.Wait no_identity (Piece 0) 0 h
+reported (Some (Told.Attached i)) consumed h = answered none consumed Event.Attached i (Piece 0) 0 h
+reported (Some Told.Rejected) consumed h = answered none consumed Event.Rejected no_identity (Piece 0) 0 h
+reported (Some (Told.Data place n)) consumed h = answered none consumed Event.Data no_identity place n h
+reported (Some (Told.Reset i)) consumed h = answered none consumed Event.Reset i (Piece 0) 0 h
+
+abbrev pub received_by : Result (code.Received code-event.HostEvent) Error → HostSession → Received
+received_by (Ok r) h = reported r.event r.consumed h
+received_by (Err e) h = refused (refusal_of e) h
+
+abbrev pub received : After HostSession (code.Received code-event.HostEvent) → Received
+received a = received_by a.answer a.session
+
+-- a whole record with the bytes taken: the session after it and the event, or an error that leaves Failed with the parser as push left it
+abbrev pub accepted : HostSession → RecordParser → ℕ → Result (HostSession × code-event.HostEvent) Error → Received
+accepted h p consumed (Ok a) = reported (Some a.1) consumed a.0
+accepted h p consumed (Err e) = refused (refusal_of e) (with_state h State.Failed p)
+
+-- ---- the rule
 -- Failed, other fields unchanged, the parser as push left it
 abbrev pub fail_with : HostSession → Push → Refusal → Receive
 fail_with h u r = record { answer = refused r (with_state h State.Failed u.answer.parser); held = u.held; payload = [] }

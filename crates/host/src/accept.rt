@@ -1,45 +1,34 @@
 // The host's receive (01, "receive"): it takes the session and answers with the session after it.
-ghost use Rattle.std.specs.Prelude.{◌≡◌, ◌<◌, ◌+◌, ◌^◌};
-ghost use Rattle.wire.specs.Refusals.{refusal};
-ghost use Rattle.record.specs.declared.types.RecordType.TheVariants as Kind;
-ghost use Rattle.parser.specs.Push.{waiting};
+ghost use Rattle.std.specs.Prelude.{◌≡◌, ◌<◌, ◌+◌, ◌^◌, ℕ, Some, None};
+ghost use Rattle.wire.specs.Refusals.{refusal_of};
+ghost use Rattle.parser.specs.Push.{waiting, progressed};
+ghost use Rattle.parser.specs.Push as pushing;
 ghost use Rattle.session.specs.Checks.{last_sequence};
 ghost use Rattle.host.specs.State.{with_state, next_host};
 ghost use Rattle.host.specs.declared.HostState.TheVariants as State;
-ghost use Rattle.host.specs.Receive.{told, refused, reports, effect, accept, after_push, outcome, receive_of};
+ghost use Rattle.host.specs.Receive.{told, refused, reported, accepted, received, effect, accept, after_push, outcome, receive_of};
 
 use crate::checks::check_record;
 use crate::{HostSession, HostState};
-use outer::{OUTER_HEADER_LEN, OUTER_MAX_PAYLOAD};
+use outer::OUTER_HEADER_LEN;
 use parser::push::push;
-use parser::{Place, Pushed, RecordParser};
+use parser::{Complete, Place, Pushed, RecordParser};
 use record::types::RecordType;
-use session::{Identity, identity_in, no_identity};
+use session::checks::ready;
+use session::{After, Identity, Received, identity_in};
+use wire::Sequence;
 use wire::copying::copy_at;
-use wire::{Refusal, Sequence};
+use wire::errors::Error;
 
-// What a receive reports. The identity of READY and RESET stands beside it in the answer; the bytes
-// of data are had by `payload`. A rejection carries the one error code there is.
+// What a receive reports. The bytes of data are had by `payload`. A rejection carries the one error
+// code there is.
 #[derive(Clone, Copy, Debug, PartialEq, Eq)]
 pub enum HostEvent {
-    Nothing,
     Wait,
-    Attached,
+    Attached(Identity),
     Rejected,
-    Data,
-    Reset,
-}
-
-// What `receive` answers. What the event does not use is zero.
-#[derive(Clone, Copy)]
-pub struct Received {
-    pub refusal: Refusal,
-    pub consumed: usize,
-    pub event: HostEvent,
-    pub identity: Identity,
-    pub place: Place,
-    pub length: usize,
-    pub session: HostSession,
+    Data { place: Place, length: usize },
+    Reset(Identity),
 }
 
 // The session after a record: the state and the identity that it leads to.
@@ -52,250 +41,156 @@ fn next_session(
     requires { session.receive_sequence.0 < last_sequence }
     ensures { result ≡ next_host session state parser identity }
 {
-    let send_sequence = session.send_sequence;
     HostSession {
         parser,
         identity,
         receive_sequence: Sequence(session.receive_sequence.0 + 1),
-        send_sequence,
         state,
+        ..session
     }
 }
 
-// A receive that is refused, with the session it leaves.
-fn refuse(session: HostSession, refusal: Refusal) -> Received
-    ensures { result ≡ refused refusal session }
-{
-    Received {
-        refusal,
-        consumed: 0,
-        event: HostEvent::Nothing,
-        identity: no_identity(),
-        place: Place::Piece(0),
-        length: 0,
-        session,
-    }
-}
-
-// A receive that leaves Failed.
-fn fail(session: HostSession, parser: RecordParser, refusal: Refusal) -> Received
-    ensures { result ≡ refused refusal (with_state session State.Failed parser) }
-{
-    refuse(session.with_state(HostState::Failed, parser), refusal)
-}
-
-// A receive that reports an event without bytes.
-fn report(
+// What a record does that nothing stops, by its type. WAIT and DATA keep the state, READY sets the
+// identity, and of a RESET the identity is reported and not kept. A type that no state allows has been
+// stopped before; the rule has 10 for it here too.
+#[tactic(auto, using(crate::proofs::Receiving::effect_other), unfolding(crate::specs::Receive::effect))]
+fn effect(
     session: HostSession,
-    pushed: Pushed,
-    event: HostEvent,
-    identity: Identity,
-    state: HostState,
-    held: Option<Identity>,
-) -> Received
+    parser: RecordParser,
+    complete: Complete,
+) -> Result<(HostSession, HostEvent), Error>
     requires { session.receive_sequence.0 < last_sequence }
-    ensures { result ≡ (reports session (told pushed) event identity state held).answer }
+    ensures { (n : ℕ) → accepted session parser n result ≡ (effect complete.«record».record_type session (told (progressed (Some complete) n parser))).answer }
 {
-    Received {
-        refusal: Refusal::none(),
-        consumed: pushed.consumed,
-        event,
-        identity,
-        place: Place::Piece(0),
-        length: 0,
-        session: next_session(session, state, pushed.parser, held),
-    }
-}
-
-// WAIT keeps the state.
-fn on_wait(session: HostSession, pushed: Pushed) -> Received
-    requires { session.receive_sequence.0 < last_sequence }
-    ensures { result ≡ (effect Kind.Wait session (told pushed)).answer }
-{
-    let state = session.state;
-    report(
-        session,
-        pushed,
-        HostEvent::Wait,
-        no_identity(),
-        state,
-        session.identity,
-    )
-}
-
-// READY sets the identity.
-fn on_ready(session: HostSession, pushed: Pushed) -> Received
-    requires { session.receive_sequence.0 < last_sequence }
-    ensures { result ≡ (effect Kind.Ready session (told pushed)).answer }
-{
-    let identity = identity_in(pushed.record);
-    report(
-        session,
-        pushed,
-        HostEvent::Attached,
-        identity,
-        HostState::Attached,
-        Some(identity),
-    )
-}
-
-// ERROR rejects the host.
-fn on_error(session: HostSession, pushed: Pushed) -> Received
-    requires { session.receive_sequence.0 < last_sequence }
-    ensures { result ≡ (effect Kind.Error session (told pushed)).answer }
-{
-    report(
-        session,
-        pushed,
-        HostEvent::Rejected,
-        no_identity(),
-        HostState::Rejected,
-        session.identity,
-    )
-}
-
-// RESET reports its identity, and the session keeps its own.
-fn on_reset(session: HostSession, pushed: Pushed) -> Received
-    requires { session.receive_sequence.0 < last_sequence }
-    ensures { result ≡ (effect Kind.Reset session (told pushed)).answer }
-{
-    let reset = identity_in(pushed.record);
-    report(
-        session,
-        pushed,
-        HostEvent::Reset,
-        reset,
-        HostState::Reset,
-        session.identity,
-    )
-}
-
-// DATA: its bytes are handed out.
-fn on_data(session: HostSession, pushed: Pushed) -> Received
-    requires { session.receive_sequence.0 < last_sequence }
-    ensures { result ≡ (effect Kind.Data session (told pushed)).answer }
-{
-    let place = pushed.place;
-    let state = session.state;
-    Received {
-        refusal: Refusal::none(),
-        consumed: pushed.consumed,
-        event: HostEvent::Data,
-        identity: no_identity(),
-        place,
-        length: pushed.record.length,
-        session: next_session(session, state, pushed.parser, session.identity),
-    }
-}
-
-// A type that no state allows: 10.
-fn not_allowed(session: HostSession, pushed: Pushed, code: u64) -> Received
-    ensures { result ≡ refused (refusal 10 code 0 0) (with_state session State.Failed pushed.parser) }
-{
-    fail(session, pushed.parser, Refusal::new(10, code, 0, 0))
-}
-
-// What a record does that nothing stops, by its type.
-fn apply_record(session: HostSession, pushed: Pushed) -> Received
-    requires { session.receive_sequence.0 < last_sequence }
-    ensures { result ≡ (effect pushed.«record».record_type session (told pushed)).answer }
-{
-    let record = pushed.record;
-    let record_type = record.record_type;
-    match record_type {
-        RecordType::GuestAttach => not_allowed(session, pushed, 1),
-        RecordType::HostAttach => not_allowed(session, pushed, 2),
-        RecordType::Reset => on_reset(session, pushed),
-        RecordType::Ack => not_allowed(session, pushed, 4),
-        RecordType::Data => on_data(session, pushed),
-        RecordType::Wait => on_wait(session, pushed),
-        RecordType::Ready => on_ready(session, pushed),
-        RecordType::Error => on_error(session, pushed),
-        RecordType::Credit => not_allowed(session, pushed, 9),
-    }
+    let held = session.identity;
+    let carried = identity_in(complete.record);
+    let (state, identity, event) = match complete.record.record_type {
+        RecordType::Wait => (session.state, held, HostEvent::Wait),
+        RecordType::Ready => (
+            HostState::Attached,
+            Some(carried),
+            HostEvent::Attached(carried),
+        ),
+        RecordType::Error => (HostState::Rejected, held, HostEvent::Rejected),
+        RecordType::Data => {
+            let place = complete.place;
+            let length = complete.record.length;
+            (session.state, held, HostEvent::Data { place, length })
+        }
+        RecordType::Reset => (HostState::Reset, held, HostEvent::Reset(carried)),
+        kind => return Err(Error::Unexpected(kind.code())),
+    };
+    Ok((next_session(session, state, parser, identity), event))
 }
 
 // A whole record: what stops it, or what it does.
-fn accept_record(session: HostSession, pushed: Pushed) -> Received
-    ensures { result ≡ (accept session (told pushed)).answer }
+fn accept_record(
+    session: HostSession,
+    parser: RecordParser,
+    complete: Complete,
+) -> Result<(HostSession, HostEvent), Error>
+    ensures { (n : ℕ) → accepted session parser n result ≡ (accept session (told (progressed (Some complete) n parser))).answer }
 {
-    let refusal = check_record(session, pushed.record);
-    if refusal.number != 0 {
-        return fail(session, pushed.parser, refusal);
+    check_record(session, complete.record)?;
+    effect(session, parser, complete)
+}
+
+// A receive that leaves Failed, as the guest has it over its own session (crates/guest/src/accept.rt
+// says why there are two).
+fn fail(
+    session: HostSession,
+    parser: RecordParser,
+    error: Error,
+) -> After<HostSession, Received<HostEvent>>
+    ensures { received result ≡ refused (refusal_of error) (with_state session State.Failed parser) }
+{
+    After {
+        answer: Err(error),
+        session: HostSession {
+            parser,
+            state: HostState::Failed,
+            ..session
+        },
     }
-    apply_record(session, pushed)
+}
+
+// A receive of so many bytes that completes no record.
+fn wait(
+    session: HostSession,
+    parser: RecordParser,
+    consumed: usize,
+) -> After<HostSession, Received<HostEvent>>
+    ensures { received result ≡ reported None consumed (with_state session session.state parser) }
+{
+    After {
+        answer: Ok(Received {
+            consumed,
+            event: None,
+        }),
+        session: HostSession { parser, ..session },
+    }
 }
 
 // After the push: its refusal, no record yet, or a whole record.
-fn after_push(session: HostSession, pushed: Pushed) -> Received
-    ensures { result ≡ (after_push session (told pushed)).answer }
+#[tactic(auto, using(wire::proofs::Rows::refuses), unfolding(crate::specs::Receive::after_push))]
+fn after_push(session: HostSession, pushed: Pushed) -> After<HostSession, Received<HostEvent>>
+    ensures { received result ≡ (after_push session (told (pushing.pushed pushed))).answer }
 {
-    if pushed.refusal.number != 0 {
-        return fail(session, pushed.parser, pushed.refusal);
+    let parser = pushed.parser;
+    let progress = match pushed.answer {
+        Ok(progress) => progress,
+        Err(error) => return fail(session, parser, error),
+    };
+    let consumed = progress.consumed;
+    let Some(complete) = progress.complete else {
+        return wait(session, parser, consumed);
+    };
+    match accept_record(session, parser, complete) {
+        Ok((session, event)) => After {
+            answer: Ok(Received {
+                consumed,
+                event: Some(event),
+            }),
+            session,
+        },
+        Err(error) => fail(session, parser, error),
     }
-    if pushed.complete {
-        return accept_record(session, pushed);
-    }
-    Received {
-        refusal: Refusal::none(),
-        consumed: pushed.consumed,
-        event: HostEvent::Nothing,
-        identity: no_identity(),
-        place: Place::Piece(0),
-        length: 0,
-        session: with_parser(session, pushed.parser),
-    }
-}
-
-// The session with another parser.
-fn with_parser(mut session: HostSession, parser: RecordParser) -> HostSession
-    ensures { result ≡ with_state session session.state parser }
-{
-    session.parser = parser;
-    session
 }
 
 // A receive of so many payload bytes that leaves the payload unfinished: the commonest case, apart
 // from the others so that it moves little.
-fn keep_waiting(session: HostSession, count: usize) -> Received
+#[tactic(auto, unfolding(crate::specs::Receive::after_push))]
+fn keep_waiting(session: HostSession, count: usize) -> After<HostSession, Received<HostEvent>>
     requires { session.parser.payload_len + count < 2 ^ 32 }
-    ensures { result ≡ (after_push session (told (waiting session.parser.header 44 (session.parser.payload_len + count) count))).answer }
+    ensures { received result ≡ (after_push session (told (waiting session.parser.header 44 (session.parser.payload_len + count) count))).answer }
 {
     let header = session.parser.header;
     let parser = RecordParser {
         header,
         header_len: OUTER_HEADER_LEN,
         payload_len: session.parser.payload_len + count,
-        error: Refusal::none(),
+        error: None,
     };
-    Received {
-        refusal: Refusal::none(),
-        consumed: count,
-        event: HostEvent::Nothing,
-        identity: no_identity(),
-        place: Place::Piece(0),
-        length: 0,
-        session: with_parser(session, parser),
-    }
+    wait(session, parser, count)
 }
 
 // Takes bytes of the piece up to the end of one record, and reports what the record says.
-pub fn receive(session: HostSession, piece: &[u8], stage: &mut [u8]) -> Received
-    ensures { outcome result stage.new ≡ receive_of session piece.now stage.old }
+pub fn receive(
+    session: HostSession,
+    piece: &[u8],
+    stage: &mut [u8],
+) -> After<HostSession, Received<HostEvent>>
+    ensures { outcome (received result) stage.new ≡ receive_of session piece.now stage.old }
 {
-    if !session.is_sound() {
-        return refuse(session, Refusal::new(23, 0, 0, 0));
-    }
-    if stage.len() < OUTER_MAX_PAYLOAD {
-        return refuse(session, Refusal::new(21, 0, 0, 0));
-    }
-    if !session.state.is_open() {
-        return refuse(session, Refusal::new(20, 0, 0, 0));
+    if let Err(error) = ready(session.is_sound(), stage.len(), session.state.is_open()) {
+        return After {
+            answer: Err(error),
+            session,
+        };
     }
     if session.parser.stays_open(piece.len()) {
         copy_at(stage, session.parser.payload_len, piece);
         return keep_waiting(session, piece.len());
     }
-    let pushed = push(session.parser, piece, stage);
-    after_push(session, pushed)
+    after_push(session, push(session.parser, piece, stage))
 }

@@ -1,66 +1,32 @@
 // The host's calls that write, and disconnect (01, "Host"): each takes the session and answers with
 // the session after it.
 ghost use Rattle.std.specs.Prelude.{◌≡◌, replicate};
+ghost use Rattle.wire.specs.Refusals.{first};
 ghost use Rattle.outer.specs.Outer as outer;
-ghost use Rattle.record.specs.Record.{encode_record};
-ghost use Rattle.host.specs.State.{with_sent};
-ghost use Rattle.host.specs.Calls.{outcome, not_sent, sent_record, ended};
+ghost use Rattle.record.specs.Record.{record_bytes};
+ghost use Rattle.session.specs.Writes as writing;
+ghost use Rattle.host.specs.Calls.{outcome, sent, closed, attach_rows, encoding};
 ghost use Rattle.host.specs.Calls as rule;
 
 use crate::{HostSession, HostState};
 use record::codec::encode_record;
 use record::types::RecordType;
 use session::checks::stopped;
-use session::held;
-use session::next::encode_data;
+use session::next::{Encoded, encode_data};
+use session::{After, Sent, held};
 use wire::errors::Error;
-use wire::{Epoch, Refusal, Sequence};
+use wire::{Epoch, Sequence};
 
-// What a call that writes answers: the bytes of data taken by `send`, else 0, and the position
-// after the record.
-#[derive(Clone, Copy)]
-pub struct Sent {
-    pub refusal: Refusal,
-    pub count: usize,
-    pub next: usize,
-    pub session: HostSession,
-}
-
-// What `disconnect` answers.
-#[derive(Clone, Copy)]
-pub struct Closed {
-    pub refusal: Refusal,
-    pub session: HostSession,
-}
-
-// Nothing is sent.
-fn not_sent(session: HostSession, refusal: Refusal) -> Sent
-    ensures { result ≡ not_sent refusal session }
+// The HOST_ATTACH record with the capability: 23, 20, then the record.
+fn write_attach(
+    session: HostSession,
+    capability: [u8; 32],
+    output: &mut [u8],
+    at: usize,
+) -> Result<usize, Error>
+    ensures { outer.outcome (outer.written result) output.new ≡ outer.write (first (attach_rows session output.old at)) (record_bytes 2 (replicate 16 0) 0 0 capability) output.old at }
 {
-    Sent {
-        refusal,
-        count: 0,
-        next: 0,
-        session,
-    }
-}
-
-// A record is sent.
-fn record_sent(count: usize, next: usize, session: HostSession) -> Sent
-    ensures { result ≡ sent_record count next session }
-{
-    Sent {
-        refusal: Refusal::none(),
-        count,
-        next,
-        session,
-    }
-}
-
-// Writes HOST_ATTACH with the capability.
-fn write_attach(capability: [u8; 32], output: &mut [u8], at: usize) -> Result<usize, Error>
-    ensures { outer.outcome (outer.written result) output.new ≡ encode_record 2 (replicate 16 0) 0 0 capability output.old at }
-{
+    stopped(session.is_sound(), session.state == HostState::Detached)?;
     encode_record(
         RecordType::HostAttach,
         [0u8; 16],
@@ -72,89 +38,101 @@ fn write_attach(capability: [u8; 32], output: &mut [u8], at: usize) -> Result<us
     )
 }
 
-// The session after a record was sent: the next send sequence.
-fn sent_session(mut session: HostSession, send_sequence: Sequence) -> HostSession
-    ensures { result ≡ with_sent session send_sequence.0 }
-{
-    session.send_sequence = send_sequence;
-    session
-}
-
 // Writes the record with which the host attaches.
-pub fn attach(session: HostSession, capability: [u8; 32], output: &mut [u8], at: usize) -> Sent
-    ensures { outcome result output.new ≡ rule.attach session capability output.old at }
+#[tactic(auto, using(wire::proofs::Rows::numbered), unfolding(crate::specs::Calls::attach, crate::specs::Calls::writes, outer::specs::Outer::write))]
+pub fn attach(
+    session: HostSession,
+    capability: [u8; 32],
+    output: &mut [u8],
+    at: usize,
+) -> After<HostSession, Sent>
+    ensures { outcome (sent result) output.new ≡ rule.attach session capability output.old at }
 {
-    let refusal = stopped(session.is_sound(), session.state == HostState::Detached);
-    if refusal.number != 0 {
-        return not_sent(session, refusal);
-    }
-    match write_attach(capability, output, at) {
-        Ok(next) => record_sent(
-            0,
-            next,
-            session.with_state(HostState::Attaching, session.parser),
-        ),
-        Err(error) => not_sent(session, Refusal::from(error)),
+    match write_attach(session, capability, output, at) {
+        Ok(next) => After {
+            answer: Ok(Sent { count: 0, next }),
+            session: HostSession {
+                state: HostState::Attaching,
+                ..session
+            },
+        },
+        Err(error) => After {
+            answer: Err(error),
+            session,
+        },
     }
 }
 
-// Writes a DATA record of at most the first 65,536 bytes, and says how many it took.
-pub fn send(session: HostSession, bytes: &[u8], output: &mut [u8], at: usize) -> Sent
-    ensures { outcome result output.new ≡ rule.send session bytes.now output.old at }
+// The DATA record of a send: 23, 20, then the record.
+#[tactic(auto, using(wire::proofs::Rows::numbered, crate::proofs::States::same_is), unfolding(crate::specs::Calls::encoding, wire::specs::Refusals::first))]
+fn encode_sent(
+    session: HostSession,
+    bytes: &[u8],
+    output: &mut [u8],
+    at: usize,
+) -> Result<Encoded, Error>
+    ensures { writing.outcome (writing.encoded session.send_sequence.0 result) output.new ≡ encoding session bytes.now output.old at }
 {
-    let refusal = stopped(session.is_sound(), session.state == HostState::Attached);
-    if refusal.number != 0 {
-        return not_sent(session, refusal);
-    }
-    let encoded = encode_data(
+    stopped(session.is_sound(), session.state == HostState::Attached)?;
+    encode_data(
         held(session.identity),
         session.send_sequence,
         bytes,
         output,
         at,
-    );
-    if encoded.refusal.number != 0 {
-        return not_sent(session, encoded.refusal);
-    }
-    record_sent(
-        encoded.count,
-        encoded.next,
-        sent_session(session, encoded.sequence),
     )
 }
 
-// Ends a session that has begun: 19 with bytes buffered leaves Failed, or it leads to Closed.
-fn end_session(session: HostSession, buffered: usize) -> Closed
-    ensures { result ≡ ended session buffered }
+// Writes a DATA record of at most the first 65,536 bytes, and says how many it took. Of the session
+// only the sequence changes, and a refusal leaves that too.
+pub fn send(
+    mut session: HostSession,
+    bytes: &[u8],
+    output: &mut [u8],
+    at: usize,
+) -> After<HostSession, Sent>
+    ensures { outcome (sent result) output.new ≡ rule.send session bytes.now output.old at }
 {
-    if buffered != 0 {
-        return Closed {
-            refusal: Refusal::new(19, buffered as u64, 0, 0),
-            session: session.with_state(HostState::Failed, session.parser),
-        };
-    }
-    Closed {
-        refusal: Refusal::none(),
-        session: session.with_state(HostState::Closed, session.parser),
+    match encode_sent(session, bytes, output, at) {
+        Ok(encoded) => {
+            session.send_sequence = encoded.sequence;
+            After {
+                answer: Ok(encoded.sent),
+                session,
+            }
+        }
+        Err(error) => After {
+            answer: Err(error),
+            session,
+        },
     }
 }
 
-// Ends the session at the end of the stream.
-pub fn disconnect(session: HostSession) -> Closed
-    ensures { result ≡ rule.disconnect session }
+// Ends the session at the end of the stream: 19 with bytes buffered leaves Failed, or it leads to
+// Closed.
+#[tactic(auto, unfolding(crate::specs::State::sound_host, crate::specs::Calls::disconnect, wire::specs::Refusals::first))]
+pub fn disconnect(session: HostSession) -> After<HostSession, ()>
+    ensures { closed result ≡ rule.disconnect session }
 {
     if !session.is_sound() {
-        return Closed {
-            refusal: Refusal::new(23, 0, 0, 0),
+        return After {
+            answer: Err(Error::Unsound),
             session,
         };
     }
     if !session.state.is_begun() {
-        return Closed {
-            refusal: Refusal::none(),
+        return After {
+            answer: Ok(()),
             session,
         };
     }
-    let buffered = session.parser.buffered();
-    end_session(session, buffered.count)
+    let answer = session.parser.ended();
+    let state = match answer {
+        Ok(()) => HostState::Closed,
+        Err(_) => HostState::Failed,
+    };
+    After {
+        answer,
+        session: HostSession { state, ..session },
+    }
 }

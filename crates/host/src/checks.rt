@@ -1,6 +1,6 @@
 // What stops a whole record at a host (01, "receive"), in 01's order.
 ghost use Rattle.std.specs.Prelude.{◌≡◌, ◌||◌, [], ◌∷◌, eqb};
-ghost use Rattle.wire.specs.Refusals.{first};
+ghost use Rattle.wire.specs.Refusals.{verdict, first};
 ghost use Rattle.record.specs.Types.{code_of};
 ghost use Rattle.session.specs.Checks.{identity_row, instance_row};
 ghost use Rattle.host.specs.Checks.{allowed, stale_row, order_rows, type_rows, record_rows};
@@ -10,7 +10,8 @@ use record::Record;
 use record::types::RecordType;
 use session::checks::{check_identity, check_instance, check_sequence};
 use session::{Identity, held, identity_in, is_identity, next_sequence};
-use wire::{Refusal, Sequence};
+use wire::Sequence;
+use wire::errors::Error;
 
 // Whether a type belongs to an attachment: Wait, Ready, Error.
 fn is_attachment(kind: RecordType) -> bool
@@ -41,83 +42,73 @@ fn is_allowed(state: HostState, kind: RecordType) -> bool
 }
 
 // What stops a record by its type and sequence: 10, 15, 16.
+#[tactic(auto, using(wire::proofs::Rows::numbered, session::proofs::Cases::next_verdict), unfolding(wire::specs::Refusals::first))]
 fn check_order(
     state: HostState,
     record_type: RecordType,
     actual: Sequence,
     due: Sequence,
-) -> Refusal
-    ensures { result ≡ first (order_rows state (code_of record_type) actual.0 due.0) }
+) -> Result<(), Error>
+    ensures { verdict result ≡ first (order_rows state (code_of record_type) actual.0 due.0) }
 {
     if !is_allowed(state, record_type) {
-        return Refusal::new(10, record_type.code() as u64, 0, 0);
+        return Err(Error::Unexpected(record_type.code()));
     }
-    let sequence = check_sequence(actual, due);
-    if sequence.number != 0 {
-        return sequence;
-    }
-    let next = next_sequence(due, record_type);
-    next.refusal
+    check_sequence(actual, due)?;
+    next_sequence(due, record_type)?;
+    Ok(())
 }
 
 // What stops a record that must carry an identity: 11.
-fn check_carried(kind: RecordType, actual: Identity) -> Refusal
-    ensures { result ≡ first (identity_row (code_of kind) actual.instance_id actual.epoch.0 ∷ []) }
+#[tactic(auto, unfolding(wire::specs::Refusals::first))]
+fn check_carried(kind: RecordType, actual: Identity) -> Result<(), Error>
+    ensures { verdict result ≡ first (identity_row (code_of kind) actual.instance_id actual.epoch.0 ∷ []) }
 {
-    let instance_id = actual.instance_id;
-    if is_identity(instance_id, actual.epoch) {
-        return Refusal::none();
+    if !is_identity(actual.instance_id, actual.epoch) {
+        return Err(Error::MissingIdentity(kind.code()));
     }
-    Refusal::new(11, kind.code() as u64, 0, 0)
+    Ok(())
 }
 
 // What stops a RESET: 11, 12, 14.
-fn check_reset(actual: Identity, current: Identity) -> Refusal
-    ensures { result ≡ first (identity_row 3 actual.instance_id actual.epoch.0 ∷ instance_row current.instance_id actual.instance_id ∷ stale_row current.epoch.0 actual.epoch.0 ∷ []) }
+#[tactic(auto, using(wire::proofs::Rows::numbered), unfolding(wire::specs::Refusals::first))]
+fn check_reset(actual: Identity, current: Identity) -> Result<(), Error>
+    ensures { verdict result ≡ first (identity_row 3 actual.instance_id actual.epoch.0 ∷ instance_row current.instance_id actual.instance_id ∷ stale_row current.epoch.0 actual.epoch.0 ∷ []) }
 {
-    let missing = check_carried(RecordType::Reset, actual);
-    if missing.number != 0 {
-        return missing;
-    }
-    let actual_instance = actual.instance_id;
-    let current_instance = current.instance_id;
-    let other = check_instance(actual_instance, current_instance);
-    if other.number != 0 {
-        return other;
-    }
+    check_carried(RecordType::Reset, actual)?;
+    check_instance(actual.instance_id, current.instance_id)?;
     if actual.epoch.0 <= current.epoch.0 {
-        return Refusal::new(14, current.epoch.0, actual.epoch.0, 0);
+        return Err(Error::StaleEpoch {
+            current: current.epoch.0,
+            actual: actual.epoch.0,
+        });
     }
-    Refusal::none()
+    Ok(())
 }
 
 // What stops a record by its identity: Ready 11; Data 12, 13; Reset 11, 12, 14.
-fn check_type(kind: RecordType, current: Identity, record: Record) -> Refusal
-    ensures { result ≡ first (type_rows (code_of kind) current «record») }
+#[tactic(auto, unfolding(wire::specs::Refusals::first))]
+fn check_type(kind: RecordType, current: Identity, record: Record) -> Result<(), Error>
+    ensures { verdict result ≡ first (type_rows (code_of kind) current «record») }
 {
     let actual = identity_in(record);
     match kind {
         RecordType::Ready => check_carried(RecordType::Ready, actual),
         RecordType::Data => check_identity(actual, current),
         RecordType::Reset => check_reset(actual, current),
-        _ => Refusal::none(),
+        _ => Ok(()),
     }
 }
 
 // What stops a whole record.
-pub(crate) fn check_record(session: HostSession, record: Record) -> Refusal
-    ensures { result ≡ first (record_rows session «record») }
+pub(crate) fn check_record(session: HostSession, record: Record) -> Result<(), Error>
+    ensures { verdict result ≡ first (record_rows session «record») }
 {
-    let state = session.state;
-    let record_type = record.record_type;
-    let order = check_order(
-        state,
-        record_type,
+    check_order(
+        session.state,
+        record.record_type,
         record.sequence,
         session.receive_sequence,
-    );
-    if order.number != 0 {
-        return order;
-    }
-    check_type(record_type, held(session.identity), record)
+    )?;
+    check_type(record.record_type, held(session.identity), record)
 }

@@ -10,15 +10,16 @@ mod checks;
 
 ghost use Rattle.std.specs.Prelude.{◌≡◌, not, ◌||◌};
 ghost use Rattle.session.specs.Checks.{holds};
-ghost use Rattle.host.specs.State.{code, is_attached, is_open, is_begun, fresh_host, sound_host, with_state};
+ghost use Rattle.host.specs.State.{code, is_attached, is_open, is_begun, fresh_host, sound_host};
 
-pub use crate::accept::{HostEvent, Received, receive};
-pub use crate::asks::{IdentityAnswer, StateAnswer, identity, needed, state};
-pub use crate::calls::{Closed, Sent, attach, disconnect, send};
+pub use crate::accept::{HostEvent, receive};
+pub use crate::asks::{identity, needed, state};
+pub use crate::calls::{attach, disconnect, send};
 use parser::RecordParser;
-pub use parser::{Count, Place, payload};
-pub use session::Identity;
+pub use parser::{Place, payload};
 use session::is_held;
+pub use session::{After, Identity, Received, Sent};
+pub use wire::errors::Error;
 pub use wire::{Epoch, Refusal, Sequence};
 
 // State of the host's session.
@@ -44,7 +45,7 @@ pub struct HostSession {
 }
 
 impl HostState {
-    // The state's number, from 0 in 01's order.
+    // The state's number, from 0 in 01's order, written out as 01 has it.
     pub fn number(self) -> u8
         ensures { result ≡ code self }
     {
@@ -102,28 +103,10 @@ impl HostSession {
     }
 
     // Whether the value is one that a session can have (01, 23).
+    #[tactic(auto, unfolding(crate::specs::State::sound_host))]
     pub fn is_sound(self) -> bool
         ensures { result ≡ sound_host self }
     {
-        if !self.parser.is_sound() {
-            return false;
-        }
-        identity_ok(self.state, self.identity)
-    }
-
-    // The session in another state with another parser, all else unchanged.
-    pub(crate) fn with_state(self, state: HostState, parser: RecordParser) -> HostSession
-        ensures { result ≡ with_state self state parser }
-    {
-        let identity = self.identity;
-        let receive_sequence = self.receive_sequence;
-        let send_sequence = self.send_sequence;
-        HostSession {
-            parser,
-            identity,
-            receive_sequence,
-            send_sequence,
-            state,
-        }
+        self.parser.is_sound() && identity_ok(self.state, self.identity)
     }
 }

@@ -1,19 +1,9 @@
--- `guest::accept::receive_any` meets its contract. Each way it returns is a case of its rule (proofs/Receiving). Assumes nothing.
-use Rattle.guest.proofs.Receiving.{receiving}
-use Rattle.guest_core.proofs.Soundness.{sound_outstanding}
+-- `guest::accept::receive_any` meets its contract: what stops it, or what it makes of the push. Assumes nothing.
+use Rattle.guest.proofs.Receiving.{receive_stops, receive_pushes}
 use Rattle.guest.proofs.accept.receive_any.Goals as goal
 
-pub returns-then-not-is_sound : goal.returns-then-not-is_sound
-returns-then-not-is_sound c = search (receiving, sound_outstanding)
+pub returns-in-Ok : goal.returns-in-Ok
+returns-in-Ok c = receive_pushes _ _ _ (rw (c.is_sound.ensures, c.is_open.ensures) at c.in-Ok.ensures) _ _ _ c.push.ensures c.after_push.ensures
 
-pub returns-then-stage-lt-OUTER_MAX_PAYLOAD : goal.returns-then-stage-lt-OUTER_MAX_PAYLOAD
-returns-then-stage-lt-OUTER_MAX_PAYLOAD c = search (receiving, sound_outstanding)
-
-pub returns-then-not-is_open : goal.returns-then-not-is_open
-returns-then-not-is_open c = search (receiving, sound_outstanding)
-
-pub after_push-requires : goal.after_push-requires
-after_push-requires c = search (receiving, sound_outstanding)
-
-pub returns : goal.returns
-returns c = search (receiving, sound_outstanding)
+pub returns-in-Err : goal.returns-in-Err
+returns-in-Err c = receive_stops _ _ _ _ (rw (c.is_sound.ensures, c.is_open.ensures) at c.in-Err.ensures)

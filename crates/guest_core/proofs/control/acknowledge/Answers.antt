@@ -1,23 +1,12 @@
--- `guest_core::control::acknowledge` meets its contract. Each way it returns is a case of its rule: `ack_stops`, `ack_refused`, `ack_done` of proofs/Calling. Assumes nothing.
-use Rattle.std.proofs.Common.{refl, ap, ◌∙◌, Ok, Err}
-use Rattle.wire.proofs.Rows.{numbered}
-use Rattle.outer.specs.Outer.{written}
-use Rattle.wire.specs.declared.Refusal.{Refusal}
-use Rattle.guest_core.specs.Writes.{not_sent}
-use Rattle.guest_core.specs.declared.GuestState.TheVariants as State
-use Rattle.guest_core.proofs.Writing.{told_of}
-use Rattle.guest_core.proofs.Calling.{ack_stops, ack_refused, ack_done}
+-- `guest_core::control::acknowledge` meets its contract: what the writer of its record answers, and the session after it. Assumes nothing.
+use Rattle.guest_core.specs.Calls.{acknowledge}
+use Rattle.guest_core.proofs.Writing.{written_ok, written_err}
 use Rattle.guest_core.proofs.control.acknowledge.Goals as goal
 
-pub returns-then-refusal-ne0 : goal.returns-then-refusal-ne0
-returns-then-refusal-ne0 c = ack_stops _ _ _ _ _ _ (told_of _ State.Resetting _ _ _ c.is_sound.ensures c.eq.ensures c.stopped-refusal.ensures) c.if-refusal-ne0.true c.not_sent.ensures
-
 pub returns-in-Ok : goal.returns-in-Ok
-returns-in-Ok c =
-    ack_done _ _ _ _ _ _ (told_of _ State.Resetting _ _ _ c.is_sound.ensures c.eq.ensures c.stopped-refusal.ensures) c.ranges.window.fits c.if-refusal-ne0.false (written (Ok c.in-Ok.next)) _ (rw c.held.ensures at c.in-Ok.ensures) _ refl
-    c.acknowledged.ensures c.record_sent.ensures
+unfolding acknowledge
+returns-in-Ok c = written_ok _ _ _ _ _ _ _ _ _ c.in-Ok.ensures c.acknowledged.ensures
 
 pub returns-in-Err : goal.returns-in-Err
-returns-in-Err c =
-    ack_refused _ _ _ _ _ _ (told_of _ State.Resetting _ _ _ c.is_sound.ensures c.eq.ensures c.stopped-refusal.ensures) c.ranges.window.fits c.if-refusal-ne0.false (written (Err c.in-Err.error)) _ (rw c.held.ensures at c.in-Err.ensures)
-    (numbered c.in-Err.error) (c.not_sent-in-Err.ensures ∙ ap (λ (r : Refusal). not_sent r c.args.session) c.from.ensures)
+unfolding acknowledge
+returns-in-Err c = written_err _ _ _ _ _ _ _ _ c.in-Err.ensures

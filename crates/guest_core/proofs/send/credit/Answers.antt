@@ -1,15 +1,13 @@
--- `guest_core::send::credit` meets its contract. Each way it returns is a case of its rule: `crediting`, `credit_low`, `credit_ok_lem` of proofs/Sending. Assumes nothing.
-use Rattle.guest_core.proofs.Sending.{crediting, active_told, credit_low, credit_ok_lem}
+-- `guest_core::send::credit` meets its contract: the session takes the sequence that was encoded and owes less (`by_crediting`). Assumes nothing.
+use Rattle.guest_core.proofs.Writing.{encoded_ok, encoded_err}
+use Rattle.guest_core.proofs.Sending.{by_crediting, credit_low}
 use Rattle.guest_core.proofs.send.credit.Goals as goal
 
-pub returns-then-refusal-ne0 : goal.returns-then-refusal-ne0
-returns-then-refusal-ne0 c = search crediting
+pub overflow_sub-session : goal.overflow_sub-session
+overflow_sub-session c = credit_low _ _ _ _ _ _ c.in-Ok.ensures
 
-pub returns-then-not-is_covered : goal.returns-then-not-is_covered
-returns-then-not-is_covered c = search crediting
+pub returns-in-Ok : goal.returns-in-Ok
+returns-in-Ok c = encoded_ok _ _ _ _ (by_crediting _ _ _ _ c.ranges.bytes.fits) _ _ c.in-Ok.ensures
 
-pub credited-requires : goal.credited-requires
-credited-requires c = search (active_told, credit_low, credit_ok_lem)
-
-pub returns : goal.returns
-returns c = search crediting
+pub returns-in-Err : goal.returns-in-Err
+returns-in-Err c = encoded_err _ _ _ _ (by_crediting _ _ _ _ c.ranges.bytes.fits) _ _ c.in-Err.ensures

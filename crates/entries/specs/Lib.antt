@@ -1,2 +1,0 @@
-pub mod GuestAnswers
-pub mod HostAnswers
