@@ -1,22 +1,22 @@
 -- The cases of the listing's rules, a law for each `return` of the code: what was tested there, and what is answered. Assumes nothing.
 use Prim.Native.Nat.{ℕ, ◌+◌, ◌-◌, ◌^◌, ◌≤◌, ◌<◌}
 use mathlib.Core.Path.{◌≡◌, refl, sym, ap, ◌∙◌}
-use mathlib.Core.Bool.{Bool, true, false, not, ◌&&◌}
+use mathlib.Core.Bool.{Bool, true, false, ◌&&◌}
 use mathlib.Core.List.{List}
+use Rattle.std.specs.Prelude.{Some}
 use native.Mathlib.Omega.{arith}
 use lib.ListN.{length}
 use lib.Dec.{leb}
-use borrow.Author.Tests.{le-leb, leb-true, eq-eqb, ne_eqb, not-true, not-false}
+use borrow.Author.Tests.{le-leb, leb-true}
 use Rattle.wire.specs.Bytes.{overlay}
-use Rattle.wire.specs.Refusals.{pick, refusal, none, passes}
-use Rattle.outer.specs.Outer.{value_of}
-use Rattle.wire.specs.declared.Refusal.{Refusal}
-use Rattle.wire.proofs.Rows.{picked, and_left, and_right}
+use Rattle.wire.specs.Refusals.{none, refusal_of, passes}
+use Rattle.wire.specs.declared.errors.Error.{Error}
+use Rattle.wire.proofs.Rows.{picked, numbered, and_left, and_right}
 use Rattle.record.specs.Types.{code_of}
+use Rattle.record.specs.declared.Record.{Record}
 use Rattle.parser.specs.Push as parser
-use Rattle.parser.specs.Push.{sound_parser, push_of, push, held_in, buffered_of, counted, payload_at}
-use Rattle.parser.specs.declared.Count.{Count}
-use Rattle.parser.specs.declared.Pushed.{Pushed}
+use Rattle.parser.specs.Push.{Pushed, latched, progressed, sound_parser, push_of, push, held_in, buffered_of, Count, count_of, counted, payload_at}
+use Rattle.parser.specs.declared.Complete.{Complete}
 use Rattle.parser.specs.declared.RecordParser.{RecordParser}
 use Rattle.text.specs.Decimal.{Placed, placed}
 use Rattle.text.specs.Lines.{line, put_text}
@@ -25,61 +25,46 @@ use Rattle.listing.specs.Reach.{limit, adds_up, refused_bytes, reached}
 use Rattle.listing.proofs.Sums.{adds_low}
 use Rattle.listing.specs.Listing.{open_after}
 use Rattle.listing.specs.Settled.{settled, is_settled}
-use Rattle.listing.specs.Steps.{listing_of, read_of, sound_listing, listed, Outcome, outcome, opens, line_of, record_listed, pushed, step_of}
+use Rattle.listing.specs.Steps.{Listed, listing_of, read_of, sound_listing, listed, Outcome, outcome, line_of, record_listed, pushed, step_of}
 use Rattle.listing.specs.declared.Listing.{Listing}
-use Rattle.listing.specs.declared.Listed.{Listed}
 use Rattle.listing.proofs.Kept.{keeps}
 use Rattle.listing.proofs.Counts.{Came, came}
 use Rattle.listing.proofs.Settled.{settled_number, settled_sound, settled_held, settles}
 
 -- ---- soundness
-module _ (s : Listing) (c : Count) (e : c ≡ counted s.parser (buffered_of s.parser)) where
-  counted_not : (c.refusal.number ≡ 0 → ⊥) → sound_parser s.parser ≡ false
-  unfolding counted
-  counted_not h =
-      picked (λ (x : Count). c ≡ x → sound_parser s.parser ≡ false) (sound_parser s.parser)
-      (λ _ q. absurd (h (ap (λ (x : Count). x.refusal.number) q)))
-      (λ f _. f)
-      e
-
-  counted_sound : c.refusal.number ≡ 0 → (sound_parser s.parser ≡ true) × (c.count ≡ buffered_of s.parser)
-  unfolding counted
-  counted_sound h =
-      picked (λ (x : Count). c ≡ x → (sound_parser s.parser ≡ true) × (c.count ≡ buffered_of s.parser)) (sound_parser s.parser)
-      (λ t q. (t, ap (λ (x : Count). x.count) q))
-      (λ _ q. let z : 23 ≡ 0 = sym (ap (λ (x : Count). x.refusal.number) q) ∙ h in absurd (omega arith))
-      e
-
+module _ (s : Listing) where
   abbrev counts : Bool
-  counts = leb (read_of s + refused_bytes s.parser.error.number) limit && adds_up s.offset s.«open»
+  counts = leb (read_of s + refused_bytes (latched s.parser).number) limit && adds_up s.offset s.«open»
 
-  abbrev after : Bool
-  after = is_settled s.parser && counts
-
-  pub sound_not : (c.refusal.number ≡ 0 → ⊥) → false ≡ sound_listing s
-  unfolding sound_listing
-  sound_not h = sym (ap (λ (t : Bool). t && after) (counted_not h))
-
-  module _ (h : c.refusal.number ≡ 0) (b : Bool) (w : b ≡ is_settled s.parser) where
-    pub sound_more : not b ≡ true → false ≡ sound_listing s
-    unfolding sound_listing
-    sound_more n = sym (λ j. (counted_sound h).0 j && ((sym w ∙ not-true b n) j && counts))
-
-    pub sound_reached : not b ≡ false → (r : Bool) → r ≡ reached s.offset s.«open» c.count s.parser.error.number → r ≡ sound_listing s
-    unfolding sound_listing
-    sound_reached n r q =
-        let k = counted_sound h in
-        q ∙ sym (λ j. k.0 j && ((sym w ∙ not-false b n) j && reached s.offset s.«open» (sym k.1 j) s.parser.error.number))
-
-  -- of a sound listing the parser is, so that its count is the bytes that it holds
-  pub count_is : sound_listing s ≡ true → c.count ≡ buffered_of s.parser
+  -- the parser does not say what it holds
+  pub unheld : (x : Error) → record { refusal = refusal_of x; count = 0 } ≡ counted s.parser (buffered_of s.parser) → false ≡ sound_listing s
   unfolding sound_listing counted
-  count_is t =
-      ap (λ (x : Count). x.count)
-      (e ∙ ap (λ (b : Bool). pick b (record { refusal = none; count = buffered_of s.parser }) (record { refusal = refusal 23 0 0 0; count = 0 }))
-      (and_left (sound_parser s.parser) after t))
+  unheld x e =
+      picked (λ (k : Count). record { refusal = refusal_of x; count = 0 } ≡ k → false ≡ sound_parser s.parser && (is_settled s.parser && counts)) (sound_parser s.parser)
+      (λ _ q. absurd (numbered x (ap (λ (k : Count). k.refusal.number) q)))
+      (λ f _. sym (ap (λ (t : Bool). t && (is_settled s.parser && counts)) f))
+      e
 
-pub ruleset soundness = (sound_not, sound_more, sound_reached)
+  module _ (n : ℕ) (e : record { refusal = none; count = n } ≡ counted s.parser (buffered_of s.parser)) where
+    held : (sound_parser s.parser ≡ true) × (n ≡ buffered_of s.parser)
+    unfolding counted
+    held =
+        picked (λ (k : Count). record { refusal = none; count = n } ≡ k → (sound_parser s.parser ≡ true) × (n ≡ buffered_of s.parser)) (sound_parser s.parser)
+        (λ t q. (t, ap (λ (k : Count). k.count) q))
+        (λ _ q. let z : 0 ≡ 23 = ap (λ (k : Count). k.refusal.number) q in absurd (omega arith))
+        e
+
+    pub count_is : n ≡ buffered_of s.parser
+    count_is = held.1
+
+    module _ (b : Bool) (w : b ≡ is_settled s.parser) where
+      pub unsettled : b ≡ false → b ≡ sound_listing s
+      unfolding sound_listing
+      unsettled f = f ∙ sym (λ j. held.0 j && ((sym w ∙ f) j && counts))
+
+      pub sound_reached : b ≡ true → (r : Bool) (m : ℕ) → m ≡ (latched s.parser).number → r ≡ reached s.offset s.«open» n m → r ≡ sound_listing s
+      unfolding sound_listing
+      sound_reached t r m em q = q ∙ sym (λ j. held.0 j && ((sym w ∙ t) j && reached s.offset s.«open» (sym held.1 j) (sym em j)))
 
 pub record Facts (s : Listing) : Type 0 where
   pub parser : sound_parser s.parser ≡ true
@@ -87,11 +72,11 @@ pub record Facts (s : Listing) : Type 0 where
   pub sums : adds_up s.offset s.«open» ≡ true
   pub «open» : s.«open» ≤ s.offset
   pub read : read_of s ≤ limit
-  pub all : read_of s + refused_bytes s.parser.error.number ≤ limit
+  pub all : read_of s + refused_bytes (latched s.parser).number ≤ limit
 
 module _ (s : Listing) where
   abbrev few : Bool
-  few = leb (read_of s + refused_bytes s.parser.error.number) limit
+  few = leb (read_of s + refused_bytes (latched s.parser).number) limit
 
   pub facts : sound_listing s ≡ true → Facts s
   unfolding sound_listing
@@ -100,8 +85,8 @@ module _ (s : Listing) where
       and_right (sound_parser s.parser) (is_settled s.parser && (few && adds_up s.offset s.«open»)) t
       in
       let q : few && adds_up s.offset s.«open» ≡ true = and_right (is_settled s.parser) (few && adds_up s.offset s.«open») k in
-      let l : read_of s + refused_bytes s.parser.error.number ≤ limit =
-      leb-true (read_of s + refused_bytes s.parser.error.number) limit (and_left few (adds_up s.offset s.«open») q)
+      let l : read_of s + refused_bytes (latched s.parser).number ≤ limit =
+      leb-true (read_of s + refused_bytes (latched s.parser).number) limit (and_left few (adds_up s.offset s.«open») q)
       in
       let e : adds_up s.offset s.«open» ≡ true = and_right few (adds_up s.offset s.«open») q in
       record {
@@ -114,79 +99,45 @@ module _ (s : Listing) where
       }
 
   from_facts : sound_parser s.parser ≡ true → is_settled s.parser ≡ true → adds_up s.offset s.«open» ≡ true
-      → read_of s + refused_bytes s.parser.error.number ≤ limit → sound_listing s ≡ true
+      → read_of s + refused_bytes (latched s.parser).number ≤ limit → sound_listing s ≡ true
   unfolding sound_listing
-  from_facts p k e l = λ j. p j && (k j && (le-leb (read_of s + refused_bytes s.parser.error.number) limit l j && e j))
-
--- ---- open
-module _ (o code size : ℕ) (payload : List ℕ) where
-  pub opens_reset : code ≡ 3 → 0 ≡ open_after o code size payload
-  unfolding open_after
-  opens_reset e = simp (eq-eqb code 3 e)
-
-  module _ (n : code ≡ 3 → ⊥) where
-    pub opens_data : code ≡ 5 → o + size ≡ open_after o code size payload
-    unfolding open_after
-    opens_data e = simp (ne_eqb code 3 n, eq-eqb code 5 e)
-
-    module _ (m : code ≡ 5 → ⊥) where
-      pub opens_credit : (r v : ℕ) → code ≡ 9 → v ≡ value_of payload → r ≡ o - v → r ≡ open_after o code size payload
-      unfolding open_after
-      opens_credit r v e q w = simp (ne_eqb code 3 n, ne_eqb code 5 m, eq-eqb code 9 e) (w ∙ ap (λ (x : ℕ). o - x) q)
-
-      pub opens_other : (code ≡ 9 → ⊥) → o ≡ open_after o code size payload
-      unfolding open_after
-      opens_other k = simp (ne_eqb code 3 n, ne_eqb code 5 m, ne_eqb code 9 k)
-
-pub ruleset opening = (opens_reset, opens_data, opens_credit, opens_other)
+  from_facts p k e l = λ j. p j && (k j && (le-leb (read_of s + refused_bytes (latched s.parser).number) limit l j && e j))
 
 -- ---- a record's line
-module _ (offset o : ℕ) (a : Pushed) where
-  abbrev from : Listing
-  from = listing_of a.parser offset o
+module _ (s : Listing) (k : Complete) (n : ℕ) where
+  abbrev r : Record
+  r = k.«record»
 
-  pub record_line_lem : (payload d : List ℕ) {e : List ℕ} (at code p : ℕ) {written : ℕ} (x : Refusal) (u : RecordParser) → at + 126 ≤ length d
-      → code ≡ code_of a.«record».record_type → p ≡ open_after o code a.«record».length payload → x ≡ none → u ≡ settled a.parser
-      → placed written e ≡ put_text d at (line offset code a.«record».epoch.0 a.«record».sequence.0 a.«record».length p)
-      → (listed x a.consumed written (listing_of u (offset + (44 + a.«record».length)) p) ≡ record_listed from a payload at)
-      × (e ≡ overlay d at (line_of from a.«record» payload))
+  pub record_line_lem : (payload d : List ℕ) {e : List ℕ} (at code p : ℕ) {written : ℕ} (u : RecordParser) → at + 126 ≤ length d
+      → code ≡ code_of r.record_type → p ≡ open_after s.«open» (code_of r.record_type) r.length payload → u ≡ settled s.parser
+      → placed written e ≡ put_text d at (line s.offset code r.epoch.0 r.sequence.0 r.length p)
+      → (listed none n written (listing_of u (s.offset + (44 + r.length)) p) ≡ record_listed s (progressed (Some k) n s.parser) payload at)
+      × (e ≡ overlay d at (line_of s r payload))
   unfolding record_listed line_of
-  record_line_lem payload d {e} at code p {written} x u room ec ep ex eu h =
-      let text : List ℕ = line offset code a.«record».epoch.0 a.«record».sequence.0 a.«record».length p in
+  record_line_lem payload d {e} at code p {written} u room ec ep eu h =
+      let text : List ℕ = line s.offset code r.epoch.0 r.sequence.0 r.length p in
       let w : placed written e ≡ placed (at + length text) (overlay d at text) = text_puts d at text written e room h in
-      let q : p ≡ opens from a.«record» payload = ep ∙ ap (λ (k : ℕ). open_after o k a.«record».length payload) ec in
-      let l : text ≡ line_of from a.«record» payload =
-      λ j. line offset (ec j) a.«record».epoch.0 a.«record».sequence.0 a.«record».length (q j)
-      in (
-        λ j. listed (ex j) a.consumed ((ap (λ (y : Placed). y.next) w ∙ ap (λ (y : List ℕ). at + length y) l) j)
-            (listing_of (eu j) (offset + (44 + a.«record».length)) (q j)),
+      let l : text ≡ line_of s r payload = λ j. line s.offset (ec j) r.epoch.0 r.sequence.0 r.length (ep j) in (
+        λ j. listed none n ((ap (λ (y : Placed). y.next) w ∙ ap (λ (y : List ℕ). at + length y) l) j) (listing_of (eu j) (s.offset + (44 + r.length)) (ep j)),
         ap (λ (y : Placed). y.output) w ∙ ap (overlay d at) l,
       )
 
 -- ---- one push
-module _ (s : Listing) (piece stage output : List ℕ) (at : ℕ) (a : Pushed) (after : List ℕ) (e : parser.outcome a after ≡ push_of s.parser piece stage) where
-  pub step_line : (payload o2 : List ℕ) (r : Listed) → a.complete ≡ true → payload ≡ payload_at a.place a.«record».length piece after
-      → (r ≡ record_listed (from s.offset s.«open» a) a payload at) × (o2 ≡ overlay output at (line_of (from s.offset s.«open» a) a.«record» payload))
+module _ (s : Listing) (piece stage output : List ℕ) (at : ℕ) (after : List ℕ) where
+  pub step_line : (k : Complete) (n : ℕ) (p : RecordParser) (payload o2 : List ℕ) (r : Listed) → parser.outcome (progressed (Some k) n p) after ≡ push_of s.parser piece stage
+      → payload ≡ payload_at k.place k.«record».length piece after
+      → (r ≡ record_listed (listing_of p s.offset s.«open») (progressed (Some k) n p) payload at) × (o2 ≡ overlay output at (line_of (listing_of p s.offset s.«open») k.«record» payload))
       → outcome r after o2 ≡ step_of s piece stage output at
   unfolding pushed record_listed line_of
-  step_line payload o2 r t ep w =
-      (λ j. outcome ((w.0 ∙ ap (λ (y : List ℕ). record_listed s a y at) ep) j) after ((w.1 ∙ ap (λ (y : List ℕ). overlay output at (line_of s a.«record» y)) ep) j))
-      ∙ sym
-      (ap (λ (b : Bool). pick b
-      (outcome (record_listed s a (payload_at a.place a.«record».length piece after) at) after (overlay output at (line_of s a.«record» (payload_at a.place a.«record».length piece after))))
-      (outcome (listed a.refusal a.consumed at (listing_of (settled a.parser) s.offset s.«open»)) after output)) t)
+  step_line k n p payload o2 r e ep w =
+      (λ j. outcome ((w.0 ∙ ap (λ (y : List ℕ). record_listed s (progressed (Some k) n p) y at) ep) j) after ((w.1 ∙ ap (λ (y : List ℕ). overlay output at (line_of s k.«record» y)) ep) j))
       ∙ ap (pushed s piece output at) e
 
+module _ (s : Listing) (piece stage output : List ℕ) (at : ℕ) (a : Pushed) (after : List ℕ) (e : parser.outcome a after ≡ push_of s.parser piece stage) where
   pub step_none : (r : Listed) → a.complete ≡ false → r ≡ listed a.refusal a.consumed at (listing_of (settled a.parser) s.offset s.«open»)
       → outcome r after output ≡ step_of s piece stage output at
   unfolding pushed
-  step_none r t w =
-      ap (λ (x : Listed). outcome x after output) w
-      ∙ sym
-      (ap (λ (b : Bool). pick b
-      (outcome (record_listed s a (payload_at a.place a.«record».length piece after) at) after (overlay output at (line_of s a.«record» (payload_at a.place a.«record».length piece after))))
-      (outcome (listed a.refusal a.consumed at (listing_of (settled a.parser) s.offset s.«open»)) after output)) t)
-      ∙ ap (pushed s piece output at) e
+  step_none r t w = simp (← e, t, w)
 
   pushed_is : (push s.parser (length stage) (held_in s.parser stage) piece).answer ≡ a
   unfolding push_of
@@ -197,7 +148,7 @@ module _ (s : Listing) (piece stage output : List ℕ) (at : ℕ) (a : Pushed) (
       → (s.«open» ≤ s.offset) × (s.offset + (44 + a.«record».length) < 2 ^ 64)
   step_fits t l c =
       let f = facts s t in
-      let k : Came (buffered_of s.parser) (refused_bytes s.parser.error.number) (length piece) a = rw pushed_is at (came s.parser (length stage) (held_in s.parser stage) piece f.parser) in
+      let k : Came (buffered_of s.parser) (refused_bytes (latched s.parser).number) (length piece) a = rw pushed_is at (came s.parser (length stage) (held_in s.parser stage) piece f.parser) in
       (f.«open», omega (arith, k.whole c, k.within))
 
 -- what one push does with the counts of a sound listing, lent no more bytes than may be read
@@ -215,7 +166,7 @@ module _ (s : Listing) (piece stage output : List ℕ) (at : ℕ) (t : sound_lis
   abbrev y : List ℕ
   y = payload_at a.place a.«record».length piece (push_of s.parser piece stage).stage
 
-  k : Came (buffered_of s.parser) (refused_bytes s.parser.error.number) (length piece) a
+  k : Came (buffered_of s.parser) (refused_bytes (latched s.parser).number) (length piece) a
   k = came s.parser (length stage) (held_in s.parser stage) piece (facts s t).parser
 
   -- the parser that is kept
@@ -225,8 +176,8 @@ module _ (s : Listing) (piece stage output : List ℕ) (at : ℕ) (t : sound_lis
   same_held : buffered_of (settled a.parser) ≡ buffered_of a.parser
   same_held = settled_held a.parser k.sound
 
-  same_refused : refused_bytes (settled a.parser).error.number ≡ refused_bytes a.parser.error.number
-  same_refused = ap refused_bytes (settled_number a.parser)
+  same_refused : refused_bytes (latched (settled a.parser)).number ≡ refused_bytes (latched a.parser).number
+  same_refused = ap refused_bytes (settled_number a.parser k.sound)
 
   pub stepped : Stepped s (length piece) (step_of s piece stage output at).listed
   unfolding push_of pushed record_listed
@@ -236,7 +187,7 @@ module _ (s : Listing) (piece stage output : List ℕ) (at : ℕ) (t : sound_lis
       picked (λ (o : Outcome). Stepped s (length piece) o.listed) a.complete
       (λ c.
       let w : buffered_of s.parser + a.consumed ≡ 44 + a.«record».length = b.whole c in
-      let z : buffered_of a.parser + refused_bytes a.parser.error.number ≡ 0 = b.empty c in
+      let z : buffered_of a.parser + refused_bytes (latched a.parser).number ≡ 0 = b.empty c in
       let g = same_held in
       let i = same_refused in
       record {

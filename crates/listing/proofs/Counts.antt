@@ -10,20 +10,20 @@ use lib.ListN.{length, take, drop, length-drop}
 use lib.Dec.{eqb, ltb, lit≤}
 use borrow.Author.Tests.{ltb-true, ltb-false, eqb-true, le-leb, ne_eqb}
 use Rattle.wire.specs.Bytes.{overlay}
-use Rattle.wire.specs.Refusals.{pick, none, first, passes}
+use Rattle.wire.specs.Refusals.{pick, none, refused, first, passes}
 use Rattle.wire.specs.Header.{type_of, length_of}
 use Rattle.wire.specs.declared.Refusal.{Refusal}
 use Rattle.wire.proofs.Rows.{passed, pass_all, picked, and_left, and_right}
 use Rattle.outer.specs.Outer.{value_of, window_ok, credit_ok}
 use Rattle.record.specs.Types.{code_of, length_ok}
 use Rattle.record.specs.Record.{header_rows, header_checks, payload_rows, payload_checks, record_with, record_of}
-use Rattle.parser.specs.Push.{counts_ok, error_ok, sound_parser, Push, failed, finish, body_taken, push_body, head_taken, head_with, push_head, push_rows, push, buffered_of}
+use Rattle.parser.specs.Push.{Pushed, latched, latch, counts_ok, error_ok, sound_parser, Push, failed, finish, body_taken, push_body, head_taken, head_with, push_head, push_rows, push, buffered_of}
 use Rattle.parser.specs.declared.RecordParser.{RecordParser}
 use Rattle.parser.specs.declared.Place.{Place}
 use Rattle.parser.specs.declared.Place.TheVariants.{Piece, Stage}
-use Rattle.parser.specs.declared.Pushed.{Pushed}
 use Rattle.wire.proofs.PartLaws.{overlay_nothing}
 use Rattle.parser.proofs.Cases.{type_code}
+use Rattle.parser.proofs.Latches.{header_latches, payload_latches, payload_low}
 use Rattle.listing.specs.Reach.{refused_bytes}
 use Rattle.listing.proofs.Sums.{refused_header_lem, refused_all}
 
@@ -36,30 +36,26 @@ pub record Came (b w n : ℕ) (a : Pushed) : Type 0 where
   pub whole : a.complete ≡ true → b + a.consumed ≡ 44 + a.«record».length
   pub clear : a.complete ≡ true → passes a.refusal ≡ true
   pub sized : a.complete ≡ true → length_ok (code_of a.«record».record_type) a.«record».length ≡ true
-  pub empty : a.complete ≡ true → buffered_of a.parser + refused_bytes a.parser.error.number ≡ 0
+  pub empty : a.complete ≡ true → buffered_of a.parser + refused_bytes (latched a.parser).number ≡ 0
   pub kept : a.complete ≡ false → buffered_of a.parser ≤ b + a.consumed
-  pub below : (l : ℕ) → a.complete ≡ false → b + w ≤ l → b + n ≤ l → buffered_of a.parser + refused_bytes a.parser.error.number ≤ l
+  pub below : (l : ℕ) → a.complete ≡ false → b + w ≤ l → b + n ≤ l → buffered_of a.parser + refused_bytes (latched a.parser).number ≤ l
 
 pub clash : {A : Type 0} → true ≡ false → A
 clash e = let z : ◌≡◌ {A = ℕ} 0 1 = cc in absurd (omega arith)
 
--- ---- refusals of the checks are 1 to 6 for a header, up to 9 for a payload
-abbrev Low : ℕ → List (Bool × Refusal) → Type 0
-Low k [] = Unit {0}
-Low k (row ∷ rows) = (row.1.number ≤ k) × Low k rows
+-- ---- refusals of the checks are 1 to 6 for a header
+abbrev Low : List (Bool × Refusal) → Type 0
+Low [] = Unit {0}
+Low (row ∷ rows) = (row.1.number ≤ 6) × Low rows
 
-first_low : (k : ℕ) (rows : List (Bool × Refusal)) → Low k rows → (first rows).number ≤ k
+first_low : (rows : List (Bool × Refusal)) → Low rows → (first rows).number ≤ 6
 unfolding first
-first_low k [] l = omega arith
-first_low k (row ∷ rows) l = picked (λ (r : Refusal). r.number ≤ k) row.0 (λ _. first_low k rows l.1) (λ _. l.0)
+first_low [] l = omega arith
+first_low (row ∷ rows) l = picked (λ (r : Refusal). r.number ≤ 6) row.0 (λ _. first_low rows l.1) (λ _. l.0)
 
 header_low : (h : List ℕ) → (header_checks h).number ≤ 6
 unfolding header_checks
-header_low h = first_low 6 (header_rows h) (lit≤ tt, (lit≤ tt, (lit≤ tt, (lit≤ tt, (lit≤ tt, (lit≤ tt, tt))))))
-
-payload_low : (t : ℕ) (y : List ℕ) → (payload_checks t y).number ≤ 9
-unfolding payload_checks
-payload_low t y = first_low 9 (payload_rows t y) (lit≤ tt, (lit≤ tt, (lit≤ tt, tt)))
+header_low h = first_low (header_rows h) (lit≤ tt, (lit≤ tt, (lit≤ tt, (lit≤ tt, (lit≤ tt, (lit≤ tt, tt))))))
 
 -- ---- lengths
 -- a header that passes has a length that its type has
@@ -89,12 +85,13 @@ value_four t n y l f = go (ℕ_discrete t 4) (ℕ_discrete t 9) (ℕ_discrete t 
         )) ∙ f)
 
 -- ---- the ways of a push
-failed_came : (b w n : ℕ) (h : List ℕ) (r : Refusal) → passes r ≡ false → r.number ≤ 9 → refused_bytes r.number ≤ b + n → Came b w n (failed h r)
+failed_came : (b w n : ℕ) (h : List ℕ) (r : Refusal) → passes r ≡ false → r.number ≤ 9 → refused (latch r) ≡ r → refused_bytes r.number ≤ b + n → Came b w n (failed h r)
 unfolding sound_parser counts_ok error_ok
-failed_came b w n h r f l g =
+failed_came b w n h r f l q g =
+    let z : refused_bytes (refused (latch r)).number ≡ refused_bytes r.number = ap (λ (x : Refusal). refused_bytes x.number) q in
     record {
       within = omega arith;
-      sound = simp (f, le-leb r.number 9 l);
+      sound = simp (q, f, le-leb r.number 9 l);
       some = λ t _. clash (sym t ∙ f);
       nothing = λ t. clash (sym t ∙ f);
       whole = λ t. clash (sym t);
@@ -139,7 +136,7 @@ module _ (b w : ℕ) (h piece : List ℕ) (k n : ℕ) (all : b + n ≡ 44 + k) (
       })
       (λ v.
       let four : length_of h ≡ 4 = value_four (type_of h) (length_of h) y (length_ok_lem h ok) v in
-      failed_came b w (length piece) h (payload_checks (type_of h) y) v (payload_low (type_of h) y) (omega (arith, refused_all (payload_checks (type_of h) y).number)))
+      failed_came b w (length piece) h (payload_checks (type_of h) y) v (payload_low (type_of h) y) (payload_latches (type_of h) y) (omega (arith, refused_all (payload_checks (type_of h) y).number)))
     where
       go : Dec (0 < n) → 0 < n + m
       go (yes z) = omega arith
@@ -179,7 +176,7 @@ module _ (w : ℕ) (head : List ℕ) (hl k : ℕ) (held piece : List ℕ) where
   whole_came q s l g =
       picked (λ (u : Push). Came (hl + k) w (length piece) u.answer) (passes (header_checks H))
       (λ ok. body_came (hl + k) w H piece k n' s (omega arith) ok l g held)
-      (λ f. failed_came (hl + k) w (length piece) H (header_checks H) f (omega (arith, header_low H)) (omega (arith, refused_header_lem (header_checks H).number (header_low H))))
+      (λ f. failed_came (hl + k) w (length piece) H (header_checks H) f (omega (arith, header_low H)) (header_latches H) (omega (arith, refused_header_lem (header_checks H).number (header_low H))))
 
   -- the header is not whole
   in_head_lem : hl < 44 → k ≡ 0 → Came (hl + k) w (length piece) (push_head head hl k held piece).answer
@@ -220,12 +217,12 @@ module _ (w : ℕ) (head : List ℕ) (hl k : ℕ) (held piece : List ℕ) where
       (λ q e. in_body (eqb-true hl 44 q) (ltb-true k (length_of head) (and_right (passes (header_checks head)) (ltb k (length_of head)) e)))
       (λ q e. in_head_lem (ltb-true hl 44 (and_left (ltb hl 44) (eqb k 0) e)) (eqb-true k 0 (and_right (ltb hl 44) (eqb k 0) e)))
 
-pub came : (p : RecordParser) (size : ℕ) (held piece : List ℕ) → sound_parser p ≡ true → Came (buffered_of p) (refused_bytes p.error.number) (length piece) (push p size held piece).answer
+pub came : (p : RecordParser) (size : ℕ) (held piece : List ℕ) → sound_parser p ≡ true → Came (buffered_of p) (refused_bytes (latched p).number) (length piece) (push p size held piece).answer
 unfolding push sound_parser
 came p size held piece s =
-    picked (λ (u : Push). Came (buffered_of p) (refused_bytes p.error.number) (length piece) u.answer) (passes (first (push_rows p size)))
-    (λ _. head_came (refused_bytes p.error.number) p.header p.header_len p.payload_len held piece
-    (and_left (counts_ok p.header p.header_len p.payload_len) (error_ok p.error.number p.header_len) s))
+    picked (λ (u : Push). Came (buffered_of p) (refused_bytes (latched p).number) (length piece) u.answer) (passes (first (push_rows p size)))
+    (λ _. head_came (refused_bytes (latched p).number) p.header p.header_len p.payload_len held piece
+    (and_left (counts_ok p.header p.header_len p.payload_len) (error_ok (latched p).number p.header_len) s))
     (λ f.
     record {
       within = omega arith;

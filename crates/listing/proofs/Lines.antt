@@ -3,28 +3,28 @@
 use Prim.Native.Nat.{ℕ, zero, suc, ◌+◌, ◌-◌, ◌≤◌, ◌<◌, min}
 use mathlib.Core.Path.{◌≡◌, refl, sym, ap, subst, ◌∙◌}
 use mathlib.Core.Bool.{Bool, true, false, not, ◌&&◌}
-use mathlib.Core.List.{List, [], ◌∷◌}
+use mathlib.Core.List.{List, [], ◌∷◌, ◌++◌}
 use native.Mathlib.Omega.{arith}
 use lib.ListN.{length, take, drop, length-drop}
 use lib.Dec.{leb}
-use borrow.Author.Tests.{le-leb, lt-leb, lt-ltb, le-ltb, eq-eqb, ne_eqb, not-true, not-false}
-use Rattle.std.specs.Prelude.{Ok, Err}
-use Rattle.wire.specs.Refusals.{pick, refusal, none, refusal_of, first, passes}
+use borrow.Author.Tests.{leb-true, le-leb, lt-leb, lt-ltb, le-ltb, not-true, not-false}
+use Rattle.std.specs.Prelude.{Option, None, Some, Result, Ok, Err, is_err}
+use Rattle.wire.specs.Refusals.{pick, refusal, none, record_refusal, refusal_of, refused, verdict, first, passes}
+use Rattle.wire.specs.declared.errors.RecordError.{RecordError}
 use Rattle.wire.specs.declared.errors.Error.{Error}
 use Rattle.wire.specs.declared.errors.Error.TheVariants as Errors
 use Rattle.outer.specs.Outer.{write}
 use Rattle.outer.specs.Outer as outer
 use Rattle.wire.specs.declared.Refusal.{Refusal}
-use Rattle.wire.proofs.Rows.{refuses, pass_all, row_stops, row_passes}
-use Rattle.parser.specs.Push.{buffered_of}
+use Rattle.wire.proofs.Rows.{Passed, Numbered, record_refuses, refuses, pass_all, none_stops, row_stops, row_passes}
+use Rattle.parser.specs.Push.{latched, buffered_of}
 use Rattle.wire.proofs.PartLaws.{part_end, take_min}
 use Rattle.text.specs.Decimal.{placed}
 use Rattle.text.specs.Lines.{names, ending, put_text}
 use Rattle.text.proofs.Texts.{text_puts}
 use Rattle.listing.specs.Reach.{limit}
-use Rattle.listing.specs.Steps.{read_of, sound_listing, listed, Outcome, outcome, step_of, further, lines, sound_row, room_row, list_rows, readable, list_of, names_of, end_line, end_of}
+use Rattle.listing.specs.Steps.{Listed, read_of, sound_listing, listed, Outcome, outcome, step_of, further, lines, sound_row, room_row, list_rows, readable, list_of, names_of, end_line, end_of}
 use Rattle.listing.specs.declared.Listing.{Listing}
-use Rattle.listing.specs.declared.Listed.{Listed}
 use Rattle.listing.proofs.Cases.{Stepped, stepped}
 
 -- ---- one turn of the rule
@@ -73,13 +73,17 @@ going_first : (s : Listing) (piece stage output : List ℕ) → sound_listing s 
 going_first s piece stage output t l =
     record { fuel = length piece; enough = omega arith; within = omega arith; same = refl; sound = t; read = omega arith; stage_size = refl; output_size = refl }
 
-pub going_start : (d : Listed) (piece stage output : List ℕ) → d ≡ listed none 0 0 d.listing → sound_listing d.listing ≡ true
-    → read_of d.listing + length piece ≤ limit → Going d.listing piece stage output d.listing stage output d.taken d.written × (d.refusal ≡ none)
-going_start d piece stage output e t l = (
-  subst (λ (x : Listed). Going d.listing piece stage output d.listing stage output x.taken x.written) (sym e)
-      (going_first d.listing piece stage output t l),
+pub going_start : (d : Listed) (s : Listing) (piece stage output : List ℕ) → d ≡ listed none 0 0 s → sound_listing s ≡ true → read_of s + length piece ≤ limit
+    → Going s piece stage output d.listing stage output d.taken d.written × (d.refusal ≡ none)
+going_start d s piece stage output e t l = (
+  subst (λ (x : Listed). Going s piece stage output x.listing stage output x.taken x.written) (sym e) (going_first s piece stage output t l),
   ap (λ (x : Listed). x.refusal) e,
 )
+
+-- whether the answer is an error
+pub answer_err : (x : Result (Unit {0}) Error) (b c : Bool) → b ≡ is_err x → b ≡ c → passes (verdict x) ≡ not c
+answer_err (Ok u) b c e q = ap not (sym e ∙ q)
+answer_err (Err x) b c e q = refuses x ∙ ap not (sym e ∙ q)
 
 module _ {s₀ : Listing} {piece stage₀ output₀ : List ℕ} {s : Listing} {stage output : List ℕ} {taken at : ℕ} (g : Going s₀ piece stage₀ output₀ s stage output taken at) where
   pub going_end : (x : Refusal) → x ≡ none → length piece ≤ taken → outcome (listed x taken at s) stage output ≡ lines (length piece) s₀ piece stage₀ output₀ 0 0
@@ -108,13 +112,13 @@ module _ {s₀ : Listing} {piece stage₀ output₀ : List ℕ} {s : Listing} {s
     same_listing : r.listing ≡ (step_of s (drop taken piece) stage output at).listed.listing
     same_listing = ap (λ (x : Outcome). x.listed.listing) e
 
-    went_on : r.refusal.number ≡ 0 → passes (step_of s (drop taken piece) stage output at).listed.refusal ≡ true
-    went_on z = ap (λ (x : Refusal). passes x) (sym same_refusal) ∙ eq-eqb r.refusal.number 0 z
+    went_on : passes r.refusal ≡ true → passes (step_of s (drop taken piece) stage output at).listed.refusal ≡ true
+    went_on z = ap (λ (x : Refusal). passes x) (sym same_refusal) ∙ z
 
     pub taken_within : r.taken ≤ length piece
     taken_within = let q = rest_length in omega (arith, went.within, g.within, same_taken)
 
-    pub taken_some : r.refusal.number ≡ 0 → taken < r.taken
+    pub taken_some : passes r.refusal ≡ true → taken < r.taken
     taken_some z = let q = rest_length in omega (arith, went.some (went_on z) (omega arith), same_taken)
 
     turn : (n : ℕ) (b : Bool) → passes r.refusal ≡ b → lines (suc n) s piece stage output taken at
@@ -123,15 +127,15 @@ module _ {s₀ : Listing} {piece stage₀ output₀ : List ℕ} {s : Listing} {s
         lines_step s piece stage output taken at n h l b (ap (λ (x : Refusal). passes x) (sym same_refusal) ∙ q)
         ∙ (λ j. pick b (lines n (sym e j).listed.listing piece (sym e j).stage (sym e j).output (sym e j).listed.taken (sym e j).listed.written) (sym e j))
 
-    pub going_out : (r.refusal.number ≡ 0 → ⊥) → outcome r after o2 ≡ lines (length piece) s₀ piece stage₀ output₀ 0 0
+    pub going_out : passes r.refusal ≡ false → outcome r after o2 ≡ lines (length piece) s₀ piece stage₀ output₀ 0 0
     going_out z = go g.fuel g.enough g.same
       where
         go : (n : ℕ) → length piece ≤ taken + n → lines n s piece stage output taken at ≡ lines (length piece) s₀ piece stage₀ output₀ 0 0
             → outcome r after o2 ≡ lines (length piece) s₀ piece stage₀ output₀ 0 0
         go zero k w = absurd (omega arith)
-        go (suc n) k w = sym (turn n false (ne_eqb r.refusal.number 0 z)) ∙ w
+        go (suc n) k w = sym (turn n false z) ∙ w
 
-    pub going_on : r.refusal.number ≡ 0 → length after ≡ length stage → length o2 ≡ length output
+    pub going_on : passes r.refusal ≡ true → length after ≡ length stage → length o2 ≡ length output
         → Going s₀ piece stage₀ output₀ r.listing after o2 r.taken r.written × (r.refusal ≡ none)
     going_on z ls lo = (go g.fuel g.enough g.same, same_refusal ∙ went.nothing (went_on z))
       where
@@ -143,7 +147,7 @@ module _ {s₀ : Listing} {piece stage₀ output₀ : List ℕ} {s : Listing} {s
               fuel = n;
               enough = omega (arith, taken_some z);
               within = taken_within;
-              same = sym (turn n true (eq-eqb r.refusal.number 0 z)) ∙ w;
+              same = sym (turn n true z) ∙ w;
               sound = ap sound_listing same_listing ∙ went.sound;
               read = omega (arith, ap read_of same_listing, went.read, g.read, same_taken);
               stage_size = ls ∙ g.stage_size;
@@ -170,63 +174,74 @@ turn_fits d piece stage output r after o2 t l w e =
     in omega (arith, k, (stepped d.listing (drop d.taken piece) stage output d.written t (omega arith)).within)
 
 -- ---- the ways out of `list`
--- with nothing done yet
-pub first_listing : (s : Listing) (x : Refusal) (d : Listed) → d ≡ listed x 0 0 s → d.listing ≡ s
-first_listing s x d e = ap (λ (y : Listed). y.listing) e
-
-pub first_done : (s : Listing) (x : Refusal) (d : Listed) → x ≡ none → d ≡ listed x 0 0 s → d ≡ listed none 0 0 d.listing
-first_done s x d q e = e ∙ (λ j. listed (q j) 0 0 (sym (first_listing s x d e) j))
-
-module _ (s : Listing) (piece stage output : List ℕ) (b : Bool) (eb : b ≡ sound_listing s) where
-  list_stops : (x : Refusal) (r : Listed) → x ≡ first (list_rows s stage output) → (x.number ≡ 0 → ⊥) → r ≡ listed x 0 0 s → outcome r stage output ≡ list_of s piece stage output
-  unfolding list_of
-  list_stops x r e n q =
-      (λ j. outcome ((q ∙ ap (λ (y : Refusal). listed y 0 0 s) e) j) stage output)
-      ∙ sym
-      (ap (λ (t : Bool). pick t (lines (length (readable s piece)) s (readable s piece) stage output 0 0) (outcome (listed (first (list_rows s stage output)) 0 0 s) stage output))
-      (ap (λ (y : Refusal). passes y) (sym e) ∙ ne_eqb x.number 0 n))
-
-  numbered : (n : ℕ) (x : Refusal) → x ≡ refusal n 0 0 0 → (n ≡ 0 → ⊥) → x.number ≡ 0 → ⊥
-  numbered n x e h z = h (sym (ap (λ (y : Refusal). y.number) e) ∙ z)
-
-  pub list_23 : (x : Refusal) (r : Listed) → not b ≡ true → x ≡ refusal 23 0 0 0 → r ≡ listed x 0 0 s → outcome r stage output ≡ list_of s piece stage output
-  list_23 x r n ex = list_stops x r (row_stops _ _ x _ (sym eb ∙ not-true b n) ex) (numbered 23 x ex (λ z. omega arith))
+-- what stops it
+module _ (s : Listing) (stage output : List ℕ) (b : Bool) (eb : b ≡ sound_listing s) where
+  pub ready_23 : not b ≡ true → refusal 23 0 0 0 ≡ first (list_rows s stage output)
+  ready_23 n = row_stops _ _ _ _ (sym eb ∙ not-true b n) refl
 
   module _ (n : not b ≡ false) where
-    pub is_sound_lem : sound_listing s ≡ true
-    is_sound_lem = sym eb ∙ not-false b n
+    ok : sound_listing s ≡ true
+    ok = sym eb ∙ not-false b n
 
-    pub list_21 : (x : Refusal) (r : Listed) → length stage < 65536 → x ≡ refusal 21 0 0 0 → r ≡ listed x 0 0 s → outcome r stage output ≡ list_of s piece stage output
-    list_21 x r h ex = list_stops x r (row_passes _ _ x _ is_sound_lem (row_stops _ _ x _ (lt-leb 65536 (length stage) h) ex)) (numbered 21 x ex (λ z. omega arith))
+    pub ready_21 : length stage < 65536 → refusal 21 0 0 0 ≡ first (list_rows s stage output)
+    ready_21 h = row_passes _ _ _ _ ok (row_stops _ _ _ _ (lt-leb 65536 (length stage) h) refl)
 
     module _ (hs : 65536 ≤ length stage) where
-      pub list_22 : (x : Refusal) (r : Listed) → length output < 126 → x ≡ refusal 22 0 0 0 → r ≡ listed x 0 0 s → outcome r stage output ≡ list_of s piece stage output
-      list_22 x r h ex =
-          list_stops x r (row_passes _ _ x _ is_sound_lem (row_passes _ _ x _ (le-leb 65536 (length stage) hs) (row_stops _ _ x _ (lt-leb 126 (length output) h) ex)))
-          (numbered 22 x ex (λ z. omega arith))
+      pub ready_22 : length output < 126 → refusal 22 0 0 0 ≡ first (list_rows s stage output)
+      ready_22 h = row_passes _ _ _ _ ok (row_passes _ _ _ _ (le-leb 65536 (length stage) hs) (row_stops _ _ _ _ (lt-leb 126 (length output) h) refl))
 
       module _ (ho : 126 ≤ length output) where
-        pub list_error : (r : Listed) → (s.parser.error.number ≡ 0 → ⊥) → r ≡ listed s.parser.error 0 0 s → outcome r stage output ≡ list_of s piece stage output
-        list_error r z =
-            list_stops s.parser.error r
-            (row_passes _ _ _ _ is_sound_lem (row_passes _ _ _ _ (le-leb 65536 (length stage) hs) (row_passes _ _ _ _ (le-leb 126 (length output) ho)
-            (row_stops _ _ _ _ (ne_eqb s.parser.error.number 0 z) refl)))) z
+        pub ready_error : (e : RecordError) → s.parser.error ≡ Some e → record_refusal e ≡ first (list_rows s stage output)
+        ready_error e q =
+            row_passes _ _ _ _ ok (row_passes _ _ _ _ (le-leb 65536 (length stage) hs) (row_passes _ _ _ _ (le-leb 126 (length output) ho)
+            (row_stops _ _ _ _ (ap (λ (x : Option RecordError). passes (refused x)) q ∙ record_refuses e) (ap refused (sym q)))))
 
-        pub list_lines : (k : ℕ) (d r : Listed) (after o2 : List ℕ) → s.parser.error.number ≡ 0 → k ≡ min (limit - read_of s) (length piece)
-            → d.listing ≡ s → outcome r after o2 ≡ lines (length (take (k - 0) (drop 0 piece))) d.listing (take (k - 0) (drop 0 piece)) stage output 0 0
-            → outcome r after o2 ≡ list_of s piece stage output
-        unfolding list_of
-        list_lines k d r after o2 z ek ed e =
-            let n : k - 0 ≡ min (limit - read_of s) (length piece) = omega arith in
-            let c : take (k - 0) (drop 0 piece) ≡ readable s piece = ap (λ (j : ℕ). take j piece) n ∙ take_min (limit - read_of s) piece in
-            e
-            ∙ (λ j. lines (length (c j)) (ed j) (c j) stage output 0 0)
-            ∙ sym
-            (ap (λ (t : Bool). pick t (lines (length (readable s piece)) s (readable s piece) stage output 0 0) (outcome (listed (first (list_rows s stage output)) 0 0 s) stage output))
-            (pass_all (list_rows s stage output)
-            (is_sound_lem, (le-leb 65536 (length stage) hs, (le-leb 126 (length output) ho, (eq-eqb s.parser.error.number 0 z, tt))))))
+        pub ready_free : s.parser.error ≡ None → none ≡ first (list_rows s stage output)
+        ready_free q =
+            none_stops (list_rows s stage output)
+            (ok, (le-leb 65536 (length stage) hs, (le-leb 126 (length output) ho, (ap (λ (x : Option RecordError). passes (refused x)) q, tt))))
 
-pub ruleset listings = (list_23, list_21, list_22, list_error)
+pub ruleset readying = (ready_23, ready_21, ready_22, ready_error, ready_free)
+
+-- the first rows pass where nothing is refused
+front_passed : (front back : List (Bool × Refusal)) → Numbered front → none ≡ first (front ++ back) → Passed front
+unfolding first
+front_passed [] back m e = tt
+front_passed (row ∷ front) back m e = go row.0 refl e (front_passed front back m.1)
+  where
+    go : (t : Bool) → row.0 ≡ t → none ≡ pick t (first (front ++ back)) row.1 → (none ≡ first (front ++ back) → Passed front) → Passed (row ∷ front)
+    go true h p k = (h, k p)
+    go false h p k = let z : true ≡ false = ap (λ (r : Refusal). passes r) p ∙ m.0 in cc
+
+module _ (s : Listing) (piece stage output : List ℕ) where
+  pub list_stops : (e : Error) (r : Listed) → refusal_of e ≡ first (list_rows s stage output) → r ≡ listed (refusal_of e) 0 0 s → outcome r stage output ≡ list_of s piece stage output
+  unfolding list_of
+  list_stops e r q w =
+      let f : passes (first (list_rows s stage output)) ≡ false = ap (λ (x : Refusal). passes x) (sym q) ∙ refuses e in
+      simp f ((λ j. outcome (w j) stage output) ∙ ap (λ (x : Refusal). outcome (listed x 0 0 s) stage output) q)
+
+  module _ (q : none ≡ first (list_rows s stage output)) where
+    front : Passed (sound_row s ∷ (leb 65536 (length stage), refusal 21 0 0 0) ∷ room_row output ∷ [])
+    front = front_passed (sound_row s ∷ (leb 65536 (length stage), refusal 21 0 0 0) ∷ room_row output ∷ []) ((passes (latched s.parser), latched s.parser) ∷ []) (refl, (refl, (refl, tt))) q
+
+    pub list_sound : sound_listing s ≡ true
+    list_sound = front.0
+
+    pub list_stage : 65536 ≤ length stage
+    list_stage = leb-true 65536 (length stage) front.1.0
+
+    pub list_output : 126 ≤ length output
+    list_output = leb-true 126 (length output) front.1.1.0
+
+    pub list_lines : (k : ℕ) (r : Listed) (after o2 : List ℕ) → k ≡ min (limit - read_of s) (length piece)
+        → outcome r after o2 ≡ lines (length (take (k - 0) (drop 0 piece))) s (take (k - 0) (drop 0 piece)) stage output 0 0
+        → outcome r after o2 ≡ list_of s piece stage output
+    unfolding list_of
+    list_lines k r after o2 ek e =
+        let n : k - 0 ≡ min (limit - read_of s) (length piece) = omega arith in
+        let c : take (k - 0) (drop 0 piece) ≡ readable s piece = ap (λ (j : ℕ). take j piece) n ∙ take_min (limit - read_of s) piece in
+        let f : passes (first (list_rows s stage output)) ≡ true = ap (λ (x : Refusal). passes x) (sym q) in
+        simp f (e ∙ (λ j. lines (length (c j)) s (c j) stage output 0 0))
 
 -- ---- the ways out of `names` and `end`
 module _ (v : Refusal) (bytes o : List ℕ) where
@@ -255,12 +270,12 @@ module _ (o : List ℕ) where
       pub end_22 : length o < 126 → outer.outcome (outer.written (Err Errors.ShortOutput)) o ≡ end_of s o
       end_22 h = write_not _ _ _ Errors.ShortOutput (row_passes _ _ _ _ (sym eb ∙ not-false b n) (row_stops _ _ _ _ (lt-leb 126 (length o) h) refl))
 
-      pub end_put : (next k : ℕ) (o2 : List ℕ) → 126 ≤ length o → k ≡ buffered_of s.parser → placed next o2 ≡ put_text o 0 (ending s.offset s.parser.error.number k)
+      pub end_put : (next k m : ℕ) (o2 : List ℕ) → 126 ≤ length o → k ≡ buffered_of s.parser → m ≡ (latched s.parser).number → placed next o2 ≡ put_text o 0 (ending s.offset m k)
           → outer.outcome (outer.written (Ok next)) o2 ≡ end_of s o
       unfolding end_line
-      end_put next k o2 h ek p =
+      end_put next k m o2 h ek em p =
           write_put _ _ _ next o2 (pass_all (sound_row s ∷ room_row o ∷ []) (sym eb ∙ not-false b n, (le-leb 126 (length o) h, tt))) h
-          (p ∙ ap (λ (j : ℕ). put_text o 0 (ending s.offset s.parser.error.number j)) ek)
+          (p ∙ (λ j. put_text o 0 (ending s.offset (em j) (ek j))))
 
 pub ruleset naming = (names_22, names_put)
 

@@ -1,116 +1,117 @@
 -- What a listing keeps of its parser. Cutting a parser down to that (`settled`) takes off no byte that is held and no number, and a push
 -- from a parser that is cut down leaves one that `settled` cuts down. Assumes nothing.
-use Prim.Native.Nat.{ℕ, zero, suc, ◌+◌, ◌-◌, ◌≤◌, ◌<◌}
+use Prim.Native.Nat.{ℕ, zero, suc, ◌+◌, ◌-◌, ◌≤◌, min}
 use mathlib.Core.Path.{◌≡◌, refl, sym, ap, subst, ◌∙◌}
-use mathlib.Core.Bool.{Bool, true, false, not, ◌&&◌}
+use mathlib.Core.Bool.{Bool, true, ◌&&◌}
 use mathlib.Core.List.{List, [], ◌∷◌, ◌++◌, append_assoc}
 use native.Mathlib.Omega.{arith}
-use native.Mathlib.Decide.{dec_le}
-use lib.ListN.{length, get_or, take, drop, length-append, length-take, length-drop, drop_of_length-le, replicate}
-use lib.Seq.{take_all, drop_at, drop-drop, get_or-drop}
-use lib.Dec.{eqb, ltb}
-use borrow.Author.Tests.{ltb-false, eq-eqb, ne_eqb, eqb-true, not-true, not-false}
+use native.Mathlib.Decide.{dec_le, ℕ_discrete}
+use lib.ListN.{length, take, drop, length-append, length-take, length-drop, drop_of_length-le}
+use lib.Seq.{take_all, drop_at, drop-drop}
+use lib.Dec.{eqb, leb, ltb, lit≤}
+use lib.Pointwise.{pointwise}
+use Rattle.std.specs.Prelude.{Option, None, Some, MatchOption, IsSomeAnd}
+use Rattle.std.specs.List.{list_all}
+use borrow.Author.Tests.{ltb-false, leb-true, eq-eqb, ne_eqb, eqb-true, eqb-false}
 use Rattle.wire.specs.Bytes.{overlay}
-use Rattle.wire.specs.Refusals.{pick, refusal, first, passes}
+use Rattle.wire.specs.Refusals.{pick, refusal, record_refusal, refused, first, passes}
 use Rattle.wire.specs.Header.{type_of, length_of}
 use Rattle.wire.specs.declared.Refusal.{Refusal}
-use Rattle.wire.proofs.Rows.{picked, and_right}
+use Rattle.wire.specs.declared.errors.RecordError.{RecordError}
+use Rattle.wire.proofs.Rows.{picked, and_left, and_right}
 use Rattle.record.specs.Record.{all_zero, header_checks, payload_checks}
-use Rattle.record.proofs.Zeros.{zero_more, zero_never}
-use Rattle.parser.specs.Push.{parser_of, counts_ok, error_ok, sound_parser, Push, waiting, finish, body_taken, push_body, head_taken, head_with, push_head, push_rows, push, buffered_of}
+use Rattle.record.proofs.Cases.{zeros}
+use Rattle.parser.specs.Push.{parser_of, fresh, latched, latch, counts_ok, error_ok, sound_parser, Push, waiting, finish, body_taken, push_body, head_taken, head_with, push_head, push_rows, push, buffered_of}
 use Rattle.parser.specs.declared.RecordParser.{RecordParser}
 use Rattle.parser.specs.declared.Place.{Place}
 use Rattle.parser.specs.declared.Place.TheVariants.{Piece, Stage}
 use Rattle.parser.proofs.Cases.{sound_count, sound_empty}
 use Rattle.listing.specs.Settled.{idle, settled, number_only, is_settled}
 
--- ---- a refusal that is its number alone, and a parser: a law for each `return` of the code
-module _ (r : Refusal) where
-  pub number_a : (r.a ≡ 0 → ⊥) → false ≡ number_only r
+-- ---- a refusal that is its number alone, and header bytes that are 0 from an index on
+module _ (r x : Refusal) (e : x ≡ refusal r.number 0 0 0) (le : length r.expected ≡ 16) (la : length r.actual ≡ 16) where
+  pub number_is : eqb r.number x.number && (eqb r.a x.a && (eqb r.b x.b && (eqb r.c x.c && (pointwise eqb r.expected x.expected && pointwise eqb r.actual x.actual)))) ≡ number_only r
   unfolding number_only
-  number_a h = simp (ne_eqb r.a 0 h)
+  number_is =
+      ap (λ (y : Refusal). eqb r.number y.number && (eqb r.a y.a && (eqb r.b y.b && (eqb r.c y.c && (pointwise eqb r.expected y.expected && pointwise eqb r.actual y.actual))))) e
+      ∙ simp (eq-eqb r.number r.number refl, zeros r.expected le, zeros r.actual la)
 
-  module _ (a : r.a ≡ 0) where
-    pub number_b : (r.b ≡ 0 → ⊥) → false ≡ number_only r
-    unfolding number_only
-    number_b h = simp (eq-eqb r.a 0 a, ne_eqb r.b 0 h)
-
-    module _ (b : r.b ≡ 0) where
-      pub number_c : (r.c ≡ 0 → ⊥) → false ≡ number_only r
-      unfolding number_only
-      number_c h = simp (eq-eqb r.a 0 a, eq-eqb r.b 0 b, ne_eqb r.c 0 h)
-
-      module _ (c : r.c ≡ 0) (z : Bool) (e : z ≡ all_zero r.expected) where
-        pub number_expected : not z ≡ true → false ≡ number_only r
-        unfolding number_only
-        number_expected h = simp (eq-eqb r.a 0 a, eq-eqb r.b 0 b, eq-eqb r.c 0 c, sym e ∙ not-true z h)
-
-        pub number_actual : (y : Bool) → not z ≡ false → y ≡ all_zero r.actual → y ≡ number_only r
-        unfolding number_only
-        number_actual y h q = simp (eq-eqb r.a 0 a, eq-eqb r.b 0 b, eq-eqb r.c 0 c, sym e ∙ not-false z h) q
-
-pub ruleset numbering = (number_a, number_b, number_c, number_expected, number_actual)
-
--- a scan from an index on
-module _ (l : List ℕ) (from i : ℕ) (low : from ≤ i) (h : i < length l) where
-  next : i + 1 - from ≡ i - from + 1
-  next = omega arith
-
-  inside : i - from < length (drop from l)
-  inside = simp length-drop (omega arith)
-
-  byte_at : get_or (drop from l) (i - from) 0 ≡ get_or l i 0
-  byte_at = let e : from + (i - from) ≡ i = omega arith in get_or-drop from l (i - from) 0 ∙ ap (λ (k : ℕ). get_or l k 0) e
-
-  pub scan_zero : (z : Bool) → z ≡ all_zero (take (i - from) (drop from l)) → get_or l i 0 ≡ 0 → z ≡ all_zero (take (i + 1 - from) (drop from l))
-  scan_zero z e q = rw next (zero_more (drop from l) (i - from) inside z e (byte_at ∙ q))
-
-  pub scan_other : (get_or l i 0 ≡ 0 → ⊥) → false ≡ all_zero (take (i + 1 - from) (drop from l))
-  scan_other q = rw next (zero_never (drop from l) (i - from) inside (λ e. q (sym byte_at ∙ e)))
-
-pub scan_start : (l : List ℕ) (from : ℕ) → true ≡ all_zero (take (from - from) (drop from l))
+all_are : (l : List ℕ) → list_all (λ b. eqb b 0) l ≡ all_zero l
 unfolding all_zero
-scan_start l from = let e : from - from ≡ 0 = omega arith in sym (ap (λ (k : ℕ). all_zero (take k (drop from l))) e)
+all_are [] = refl
+all_are (x ∷ l) = ap (λ (b : Bool). eqb x 0 && b) (all_are l)
 
-pub scan_end : (l : List ℕ) (from i : ℕ) (z : Bool) → length l ≤ i → z ≡ all_zero (take (i - from) (drop from l)) → z ≡ all_zero (drop from l)
-scan_end l from i z h e = e ∙ ap all_zero (take_all (i - from) (drop from l) (simp length-drop (omega arith)))
+pub zeros_from : (l : List ℕ) (from at : ℕ) → length l ≡ 44 → at ≡ min from 44 → list_all (λ b. eqb b 0) (take (44 - at) (drop at l)) ≡ all_zero (drop from l)
+zeros_from l from at n e =
+    all_are (take (44 - at) (drop at l))
+    ∙ ap all_zero (take_all (44 - at) (drop at l) (simp length-drop (omega arith)))
+    ∙ ap all_zero (go (dec_le from 44))
+  where
+    go : Dec (from ≤ 44) → drop at l ≡ drop from l
+    go (yes h) = let q : at ≡ from = omega arith in ap (λ (k : ℕ). drop k l) q
+    go (no h) = drop_of_length-le l {i = at} (omega arith) ∙ sym (drop_of_length-le l {i = from} (omega arith))
 
-module _ (p : RecordParser) (b : Bool) (e : b ≡ number_only p.error) where
-  pub settled_not : not b ≡ true → false ≡ is_settled p
-  unfolding is_settled
-  settled_not h = sym (ap (λ (x : Bool). x && all_zero (drop p.header_len p.header)) (sym e ∙ not-true b h))
-
-  pub settled_zeros : (z : Bool) → not b ≡ false → z ≡ all_zero (drop p.header_len p.header) → z ≡ is_settled p
-  unfolding is_settled
-  settled_zeros z h q = q ∙ sym (ap (λ (x : Bool). x && all_zero (drop p.header_len p.header)) (sym e ∙ not-false b h))
-
-pub ruleset settling = (settled_not, settled_zeros)
+-- ---- a law for each `return` of `settle`
+-- an error with its figures 0, or none
+bare_error : (o e : Option RecordError) → MatchOption o (e ≡ None) (λ x. IsSomeAnd e (λ y. Some y ≡ latch (refusal (record_refusal x).number 0 0 0))) → e ≡ latch (refusal (refused o).number 0 0 0)
+unfolding latch
+bare_error None e m = m
+bare_error (Some x) (Some y) m = m
+bare_error (Some x) None m = absurd m
 
 module _ (p : RecordParser) where
   pub keeps_all : (p.header_len ≡ 0 → ⊥) → p ≡ settled p
   unfolding settled
   keeps_all h = simp (ne_eqb p.header_len 0 h)
 
-  pub keeps_number : (r : Refusal) → p.header_len ≡ 0 → r ≡ refusal p.error.number 0 0 0 → parser_of (replicate 44 0) 0 0 r ≡ settled p
+  pub keeps_number : (n : RecordParser) (e : Option RecordError) → p.header_len ≡ 0 → n ≡ fresh → MatchOption p.error (e ≡ None) (λ x. IsSomeAnd e (λ y. Some y ≡ latch (refusal (record_refusal x).number 0 0 0)))
+      → parser_of n.header n.header_len n.payload_len e ≡ settled p
   unfolding settled
-  keeps_number r h e = simp (eq-eqb p.header_len 0 h) (ap (parser_of (replicate 44 0) 0 0) e)
-
-pub ruleset keeping = (keeps_all, keeps_number)
+  keeps_number n e h q m =
+      simp (eq-eqb p.header_len 0 h) (λ j. parser_of (q j).header (q j).header_len (q j).payload_len (bare_error p.error e m j))
 
 -- ---- what `settled` leaves
-module _ (p : RecordParser) where
-  pub settled_number : (settled p).error.number ≡ p.error.number
-  unfolding settled
-  settled_number = picked (λ (x : RecordParser). x.error.number ≡ p.error.number) (eqb p.header_len 0) (λ _. refl) (λ _. refl)
+-- of an error its number alone
+abbrev Bare : ℕ → Option RecordError → Type 0
+Bare n e = (number_only (refused e) ≡ true) × (n ≤ 9 → (refused e).number ≡ n)
 
+bare_or : (n k : ℕ) (e x : Option RecordError) → Bare k e → k ≤ 9 → ((n ≡ k → ⊥) → Bare n x) → Bare n (pick (eqb n k) e x)
+bare_or n k e x b l r = picked (Bare n) (eqb n k) (λ t. (b.0, λ _. b.1 l ∙ sym (eqb-true n k t))) (λ f. r (eqb-false n k f))
+
+bare : (n : ℕ) → Bare n (latch (refusal n 0 0 0))
+unfolding latch number_only all_zero
+bare n =
+    bare_or n 1 _ _ (refl, λ _. refl) (lit≤ tt) (λ a. bare_or n 2 _ _ (refl, λ _. refl) (lit≤ tt) (λ b. bare_or n 3 _ _ (refl, λ _. refl) (lit≤ tt)
+    (λ c. bare_or n 4 _ _ (refl, λ _. refl) (lit≤ tt) (λ d. bare_or n 5 _ _ (refl, λ _. refl) (lit≤ tt) (λ e. bare_or n 6 _ _ (refl, λ _. refl) (lit≤ tt)
+    (λ f. bare_or n 7 _ _ (refl, λ _. refl) (lit≤ tt) (λ g. bare_or n 8 _ _ (refl, λ _. refl) (lit≤ tt) (λ h. bare_or n 9 _ _ (refl, λ _. refl) (lit≤ tt)
+    (λ i. (refl, λ l. omega arith))))))))))
+
+module _ (p : RecordParser) where
   module _ (s : sound_parser p ≡ true) where
+    -- a latched error is one of 1 to 9
+    error_low : (latched p).number ≤ 9
+    unfolding sound_parser error_ok
+    error_low =
+        go (ℕ_discrete (latched p).number 0) (and_right (counts_ok p.header p.header_len p.payload_len) (error_ok (latched p).number p.header_len) s)
+      where
+        go : Dec ((latched p).number ≡ 0) → error_ok (latched p).number p.header_len ≡ true → (latched p).number ≤ 9
+        go (yes z) e = omega arith
+        go (no z) e =
+            let t : leb (latched p).number 9 && eqb p.header_len 0 ≡ true = simp (error_ok, ne_eqb (latched p).number 0 z) at e in
+            leb-true (latched p).number 9 (and_left (leb (latched p).number 9) (eqb p.header_len 0) t)
+
+    pub settled_number : (latched (settled p)).number ≡ (latched p).number
+    unfolding settled
+    settled_number = picked (λ (x : RecordParser). (latched x).number ≡ (latched p).number) (eqb p.header_len 0) (λ _. (bare (latched p).number).1 error_low) (λ _. refl)
+
     pub settled_sound : sound_parser (settled p) ≡ true
     unfolding settled sound_parser counts_ok
     settled_sound =
         picked (λ (x : RecordParser). sound_parser x ≡ true) (eqb p.header_len 0)
         (λ z.
-        subst (λ (k : ℕ). error_ok p.error.number k ≡ true) (eqb-true p.header_len 0 z)
-        (and_right (counts_ok p.header p.header_len p.payload_len) (error_ok p.error.number p.header_len) s))
+        rw ((bare (latched p).number).1 error_low)
+        (subst (λ (k : ℕ). error_ok (latched p).number k ≡ true) (eqb-true p.header_len 0 z)
+        (and_right (counts_ok p.header p.header_len p.payload_len) (error_ok (latched p).number p.header_len) s)))
         (λ _. s)
 
     pub settled_held : buffered_of (settled p) ≡ buffered_of p
@@ -124,8 +125,8 @@ module _ (p : RecordParser) where
 
 -- ---- a push
 idle_settled : (n : ℕ) → is_settled (idle n) ≡ true
-unfolding is_settled number_only all_zero
-idle_settled n = refl
+unfolding is_settled all_zero
+idle_settled n = rw (bare n).0 refl
 
 zero_drop : (n : ℕ) (l : List ℕ) → all_zero l ≡ true → all_zero (drop n l) ≡ true
 unfolding all_zero
@@ -160,7 +161,7 @@ module _ (h : List ℕ) (n : ℕ) (piece : List ℕ) where
 module _ (p : RecordParser) where
   kept : is_settled p ≡ true → is_settled (settled p) ≡ true
   unfolding settled
-  kept e = picked (λ (x : RecordParser). is_settled x ≡ true) (eqb p.header_len 0) (λ _. idle_settled p.error.number) (λ _. e)
+  kept e = picked (λ (x : RecordParser). is_settled x ≡ true) (eqb p.header_len 0) (λ _. idle_settled (latched p).number) (λ _. e)
 
 abbrev Settles : Push → Type 0
 Settles u = is_settled (settled u.answer.parser) ≡ true
@@ -173,7 +174,7 @@ module _ (h : List ℕ) (k : ℕ) (held rest : List ℕ) (from : ℕ) (e : all_z
   finish_settled : (y : List ℕ) (t : ℕ) (place : Place) → Settles (finish h y t place)
   unfolding finish settled
   finish_settled y t place =
-      picked Settles (passes (payload_checks (type_of h) y)) (λ _. idle_settled 0) (λ _. idle_settled (payload_checks (type_of h) y).number)
+      picked Settles (passes (payload_checks (type_of h) y)) (λ _. idle_settled 0) (λ _. idle_settled _)
 
   body_settled : Settles (push_body h k held rest from)
   unfolding push_body
@@ -200,12 +201,12 @@ module _ (h : List ℕ) (n k : ℕ) (held piece : List ℕ) (low : n ≤ 44) (e 
       let q : n + m ≡ 44 = omega arith in
       picked Settles (passes (header_checks H))
       (λ _. body_settled H k held (drop m piece) m (subst (λ (j : ℕ). all_zero (drop j H) ≡ true) q (front_zero h n piece e)))
-      (λ _. idle_settled (header_checks H).number))
+      (λ _. idle_settled _))
 
 pub settles : (p : RecordParser) (size : ℕ) (held piece : List ℕ) → sound_parser p ≡ true → is_settled p ≡ true → Settles (push p size held piece)
 unfolding push is_settled
 settles p size held piece s e =
     picked Settles (passes (first (push_rows p size)))
     (λ _. head_settled p.header p.header_len p.payload_len held piece (sound_count p s)
-    (and_right (number_only p.error) (all_zero (drop p.header_len p.header)) e))
+    (and_right (number_only (latched p)) (all_zero (drop p.header_len p.header)) e))
     (λ _. kept p e)

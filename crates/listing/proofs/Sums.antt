@@ -1,14 +1,13 @@
--- The cases of the rules of specs/Reach, a law for each `return` of the code; and what an offset and open that add up are made of
--- (`Sum`): DATA records that carry open, and the bytes of other records. Assumes nothing.
+-- What an offset and open that add up are made of (`Sum`): DATA records that carry open, and the bytes of other records. Assumes nothing.
 use Prim.Native.Nat.{ℕ, ◌+◌, ◌-◌, ◌*◌, ◌≤◌, ◌<◌}
 use mathlib.Core.Path.{◌≡◌, sym, ap, ap₂, ◌∙◌}
-use mathlib.Core.Bool.{Bool, true, false, not, ◌&&◌, ◌||◌}
+use mathlib.Core.Bool.{Bool, true, ◌&&◌, ◌||◌}
 use native.Mathlib.Omega.{arith}
 use native.Mathlib.Decide.{dec_le, ℕ_discrete}
 use lib.Dec.{eqb, leb}
-use borrow.Author.Tests.{le-leb, lt-leb, leb-true, eq-eqb, ne_eqb, not-true, not-false}
+use borrow.Author.Tests.{le-leb, lt-leb, leb-true, eq-eqb, ne_eqb}
 use Rattle.wire.proofs.Rows.{picked, and_left, and_right}
-use Rattle.listing.specs.Reach.{limit, data_needed, data_bytes, spare, others, adds_up, refused_bytes, reached}
+use Rattle.listing.specs.Reach.{data_needed, data_bytes, spare, others, adds_up, refused_bytes}
 
 -- ---- other records
 pub data Rest (room rest : ℕ) : Type 0 where
@@ -22,22 +21,22 @@ module _ (room rest : ℕ) where
   abbrev from_88 : Bool
   from_88 = leb 88 rest || (leb 48 rest && leb rest (48 + room))
 
-  pub others_0 : rest ≡ 0 → true ≡ others room rest
+  others_0 : rest ≡ 0 → true ≡ others room rest
   unfolding others
   others_0 e = sym (ap (λ (t : Bool). t || (eqb rest 44 || (eqb rest 76 || from_88))) (eq-eqb rest 0 e))
 
   module _ (a : rest ≡ 0 → ⊥) where
-    pub others_44 : rest ≡ 44 → true ≡ others room rest
+    others_44 : rest ≡ 44 → true ≡ others room rest
     unfolding others
     others_44 e = sym (λ j. ne_eqb rest 0 a j || (eq-eqb rest 44 e j || (eqb rest 76 || from_88)))
 
     module _ (b : rest ≡ 44 → ⊥) where
-      pub others_76 : rest ≡ 76 → true ≡ others room rest
+      others_76 : rest ≡ 76 → true ≡ others room rest
       unfolding others
       others_76 e = sym (λ j. ne_eqb rest 0 a j || (ne_eqb rest 44 b j || (eq-eqb rest 76 e j || from_88)))
 
       module _ (c : rest ≡ 76 → ⊥) where
-        pub others_88 : 88 ≤ rest → true ≡ others room rest
+        others_88 : 88 ≤ rest → true ≡ others room rest
         unfolding others
         others_88 l = sym (λ j. ne_eqb rest 0 a j || (ne_eqb rest 44 b j || (ne_eqb rest 76 c j || (le-leb 88 rest l j || (leb 48 rest && leb rest (48 + room))))))
 
@@ -45,16 +44,6 @@ module _ (room rest : ℕ) where
           below : others room rest ≡ leb 48 rest && leb rest (48 + room)
           unfolding others
           below = λ j. ne_eqb rest 0 a j || (ne_eqb rest 44 b j || (ne_eqb rest 76 c j || (lt-leb 88 rest d j || (leb 48 rest && leb rest (48 + room)))))
-
-          pub others_low : rest < 48 → false ≡ others room rest
-          others_low l = sym (below ∙ ap (λ (t : Bool). t && leb rest (48 + room)) (lt-leb 48 rest l))
-
-          pub others_room : 48 ≤ rest → leb (rest - 48) room ≡ others room rest
-          others_room l = go (dec_le (rest - 48) room) ∙ sym (below ∙ ap (λ (t : Bool). t && leb rest (48 + room)) (le-leb 48 rest l))
-            where
-              go : Dec (rest - 48 ≤ room) → leb (rest - 48) room ≡ leb rest (48 + room)
-              go (yes z) = le-leb (rest - 48) room z ∙ sym (le-leb rest (48 + room) (omega arith))
-              go (no z) = lt-leb (rest - 48) room (omega arith) ∙ sym (lt-leb rest (48 + room) (omega arith))
 
   pub rest_of : others room rest ≡ true → Rest room rest
   rest_of e = go (ℕ_discrete rest 0) (ℕ_discrete rest 44) (ℕ_discrete rest 76) (dec_le 88 rest)
@@ -82,8 +71,6 @@ module _ (room rest : ℕ) where
       go (no a) (no b) (no c) (no d) (many e) = absurd (d e)
       go (no a) (no b) (no c) (no d) (value l m) =
           below a b c (omega arith) ∙ (λ j. le-leb 48 rest l j && le-leb rest (48 + room) m j)
-
-pub ruleset otherwise = (others_0, others_44, others_76, others_88, others_low, others_room)
 
 -- ---- sums
 -- `count` DATA records with room for `room` bytes more, and `rest` bytes of other records
@@ -127,40 +114,11 @@ module _ (offset o : ℕ) where
       let q : s.room ≡ spare o = omega arith in
       (λ j. le-leb (data_bytes o) offset l j && (ap₂ others (sym q) (sym r) ∙ rest_is s.room s.rest s.others) j)
 
--- ---- `adds_up`
-module _ (offset o : ℕ) where
-  pub adds_open : offset < o → false ≡ adds_up offset o
-  unfolding adds_up
-  adds_open l = sym (ap (λ (t : Bool). t && others (spare o) (offset - data_bytes o)) (lt-leb (data_bytes o) offset (omega arith)))
-
-  module _ (n : ℕ) (e : n ≡ data_needed o) where
-    pub adds_few : offset < o + 44 * n → false ≡ adds_up offset o
-    unfolding adds_up
-    adds_few l = sym (ap (λ (t : Bool). t && others (spare o) (offset - data_bytes o)) (lt-leb (data_bytes o) offset (omega arith)))
-
-    pub adds_others : (b : Bool) → o + 44 * n ≤ offset → b ≡ others (65536 * n - o) (offset - (o + 44 * n)) → b ≡ adds_up offset o
-    unfolding adds_up
-    adds_others b l q =
-        q
-        ∙ ap (λ (k : ℕ). others (65536 * k - o) (offset - (o + 44 * k))) e
-        ∙ sym (ap (λ (t : Bool). t && others (spare o) (offset - data_bytes o)) (le-leb (data_bytes o) offset (omega arith)))
-
-pub ruleset adding = (adds_open, adds_few, adds_others)
-
 -- ---- `refused_bytes`
 module _ (n : ℕ) where
   pub refused_0 : n ≡ 0 → 0 ≡ refused_bytes n
   unfolding refused_bytes
   refused_0 e = simp (eq-eqb n 0 e)
-
-  module _ (z : n ≡ 0 → ⊥) where
-    pub refused_6 : n ≤ 6 → 44 ≡ refused_bytes n
-    unfolding refused_bytes
-    refused_6 l = simp (ne_eqb n 0 z, le-leb n 6 l)
-
-    pub refused_9 : 6 < n → 48 ≡ refused_bytes n
-    unfolding refused_bytes
-    refused_9 l = simp (ne_eqb n 0 z, lt-leb n 6 l)
 
   pub refused_header_lem : n ≤ 6 → refused_bytes n ≤ 44
   unfolding refused_bytes
@@ -170,40 +128,3 @@ module _ (n : ℕ) where
   pub refused_all : refused_bytes n ≤ 48
   unfolding refused_bytes
   refused_all = picked (λ (k : ℕ). k ≤ 48) (eqb n 0) (λ _. omega arith) (λ _. picked (λ (k : ℕ). k ≤ 48) (leb n 6) (λ _. omega arith) (λ _. omega arith))
-
-pub ruleset refusing = (refused_0, refused_6, refused_9)
-
--- ---- `within_limit`
-module _ (a b c : ℕ) where
-  pub limit_first : limit < a → false ≡ leb (a + b + c) limit
-  limit_first l = sym (lt-leb (a + b + c) limit (omega arith))
-
-  module _ (h : a ≤ limit) where
-    pub limit_held : limit - a < b → false ≡ leb (a + b + c) limit
-    limit_held l = sym (lt-leb (a + b + c) limit (omega arith))
-
-    pub limit_rest : b ≤ limit - a → leb c (limit - a - b) ≡ leb (a + b + c) limit
-    limit_rest l = go (dec_le c (limit - a - b))
-      where
-        go : Dec (c ≤ limit - a - b) → leb c (limit - a - b) ≡ leb (a + b + c) limit
-        go (yes z) = le-leb c (limit - a - b) z ∙ sym (le-leb (a + b + c) limit (omega arith))
-        go (no z) = lt-leb c (limit - a - b) (omega arith) ∙ sym (lt-leb (a + b + c) limit (omega arith))
-
-  -- within the limit, so is the first
-  pub limit_low : (t : Bool) → t ≡ leb (a + b + c) limit → not t ≡ false → a ≤ limit
-  limit_low t e n = omega (arith, leb-true (a + b + c) limit (sym e ∙ not-false t n))
-
-pub ruleset limits = (limit_first, limit_held, limit_rest)
-
--- ---- `reached`
-module _ (offset o held number k : ℕ) (f : k ≡ refused_bytes number) (b : Bool) (q : b ≡ leb (offset + held + k) limit) where
-  limit_told : b ≡ leb (offset + held + refused_bytes number) limit
-  limit_told = q ∙ ap (λ (n : ℕ). leb (offset + held + n) limit) f
-
-  pub reached_far : not b ≡ true → false ≡ reached offset o held number
-  reached_far n = sym (ap (λ (t : Bool). t && adds_up offset o) (sym limit_told ∙ not-true b n))
-
-  pub reached_sums : (r : Bool) → not b ≡ false → r ≡ adds_up offset o → r ≡ reached offset o held number
-  reached_sums r n e = e ∙ sym (ap (λ (t : Bool). t && adds_up offset o) (sym limit_told ∙ not-false b n))
-
-pub ruleset reaching = (reached_far, reached_sums)

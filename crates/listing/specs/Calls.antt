@@ -1,6 +1,7 @@
 -- Calls of the listing one after the other, over a whole capture.
 use Rattle.std.specs.Prelude.{ℕ, ◌≤◌, ◌≡◌, false, List, [], ◌∷◌, ◌++◌, length, take, drop}
 use Rattle.wire.specs.Refusals.{passes}
+use Rattle.parser.specs.Push.{latched}
 use Rattle.listing.specs.Reach.{limit}
 use Rattle.text.specs.Lines.{line_room}
 use Rattle.listing.specs.Steps.{Outcome, read_of, list_of}
@@ -23,5 +24,5 @@ pub data Calls : Listing → List ℕ → List ℕ → List ℕ → Listing → 
 -- Nothing more is read: all was taken, the capture was refused, or reading ended at 2^62 bytes.
 pub data Ended (t : Listing) (left : List ℕ) : Type 0 where
   all_taken : left ≡ [] → Ended t left
-  refused : passes t.parser.error ≡ false → Ended t left
+  refused : passes (latched t.parser) ≡ false → Ended t left
   full : read_of t ≡ limit → Ended t left

@@ -1,22 +1,21 @@
 -- The listing made a piece at a time: what each call answers, and what it leaves in the stage and the output.
 use Rattle.std.specs.Prelude.{ℕ, zero, suc, ◌+◌, ◌-◌, Bool, ◌&&◌, List, [], ◌∷◌, length, take, drop, leb, ltb}
 use Rattle.wire.specs.Bytes.{overlay}
-use Rattle.wire.specs.Refusals.{pick, refusal, none, first, passes}
+use Rattle.wire.specs.Refusals.{pick, refusal, none, first, passes, verdict}
 use Rattle.outer.specs.Outer as outer
 use Rattle.outer.specs.Outer.{max_payload, write}
 use Rattle.wire.specs.declared.Refusal.{Refusal}
 use Rattle.record.specs.Types.{code_of}
 use Rattle.record.specs.declared.Record.{Record}
 use Rattle.parser.specs.Push as parser
-use Rattle.parser.specs.Push.{sound_parser, push_of, buffered_of, payload_at}
+use Rattle.parser.specs.Push.{Pushed, latched, sound_parser, push_of, buffered_of, payload_at}
 use Rattle.parser.specs.declared.RecordParser.{RecordParser}
-use Rattle.parser.specs.declared.Pushed.{Pushed}
 use Rattle.listing.specs.Reach.{limit, adds_up, refused_bytes}
 use Rattle.listing.specs.Settled.{settled, is_settled}
 use Rattle.text.specs.Lines.{line_room, names, line, ending}
 use Rattle.listing.specs.Listing.{open_after}
 use Rattle.listing.specs.declared.Listing.{Listing}
-use Rattle.listing.specs.declared.Listed.{Listed}
+use Rattle.listing.specs.declared.Listed as code
 
 abbrev pub listing_of : RecordParser → ℕ → ℕ → Listing
 listing_of p offset o = record { parser = p; offset = offset; «open» = o }
@@ -35,11 +34,22 @@ read_of s = s.offset + buffered_of s.parser
 unfoldable pub sound_listing : Listing → Bool
 sound_listing s =
     sound_parser s.parser
-    && (is_settled s.parser && (leb (read_of s + refused_bytes s.parser.error.number) limit && adds_up s.offset s.«open»))
+    && (is_settled s.parser && (leb (read_of s + refused_bytes (latched s.parser).number) limit && adds_up s.offset s.«open»))
 
 -- ---- what a call answers
+-- what is refused, the bytes taken of the piece, the bytes written at the start of the output, and the listing after it
+pub record Listed : Type 0 where
+  pub refusal : Refusal
+  pub taken : ℕ
+  pub written : ℕ
+  pub listing : Listing
+
 abbrev pub listed : Refusal → ℕ → ℕ → Listing → Listed
 listed r taken written s = record { refusal = r; taken = taken; written = written; listing = s }
+
+-- the answer of the code: an error, or none
+abbrev pub answered : code.Listed → Listed
+answered u = listed (verdict u.answer) u.taken u.written u.listing
 
 -- with stage and output as it leaves them
 pub record Outcome : Type 0 where
@@ -104,7 +114,7 @@ room_row output = (leb line_room (length output), refusal 22 0 0 0)
 -- 23 unsound, 21 stage under 65,536 bytes, 22 output too short for a line, the capture's own refusal
 abbrev pub list_rows : Listing → List ℕ → List ℕ → List (Bool × Refusal)
 list_rows s stage output =
-    sound_row s ∷ (leb max_payload (length stage), refusal 21 0 0 0) ∷ room_row output ∷ (passes s.parser.error, s.parser.error) ∷ []
+    sound_row s ∷ (leb max_payload (length stage), refusal 21 0 0 0) ∷ room_row output ∷ (passes (latched s.parser), latched s.parser) ∷ []
 
 -- the bytes of a piece that are read: reading ends at 2^62
 abbrev pub readable : Listing → List ℕ → List ℕ
@@ -123,7 +133,7 @@ names_of output = write (first (room_row output ∷ [])) names output 0
 
 -- the unfinished record's bytes are those that the parser holds: none after a refusal
 unfoldable pub end_line : Listing → List ℕ
-end_line s = ending s.offset s.parser.error.number (buffered_of s.parser)
+end_line s = ending s.offset (latched s.parser).number (buffered_of s.parser)
 
 -- 23, 22, or the last line
 abbrev pub end_of : Listing → List ℕ → outer.Outcome

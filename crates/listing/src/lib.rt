@@ -7,6 +7,7 @@ mod reach;
 mod settle;
 
 ghost use Rattle.std.specs.Prelude.{◌≡◌};
+ghost use Rattle.wire.specs.Refusals.{refused};
 ghost use Rattle.outer.specs.Outer as outer;
 ghost use Rattle.listing.specs.Steps.{fresh, sound_listing, names_of, end_of};
 
@@ -16,7 +17,7 @@ use crate::settle::is_settled;
 use parser::RecordParser;
 use text::lines::{LINE, put_ending, put_names};
 use wire::Refusal;
-use wire::errors::Error;
+use wire::errors::{Error, RecordError};
 
 // The record under way in its parser, its offset in the capture, and 01's open before it. Between
 // records the parser has no byte of a header, and of a refusal it has the number alone.
@@ -28,10 +29,10 @@ pub struct Listing {
 }
 
 // What `listing::list::list` answers: the bytes taken of the piece, the bytes written at the start of
-// the output, and the listing after it. A refusal of 1 to 9 is the capture's own, and ends it.
+// the output, and the listing after it. An error of 1 to 9 is the capture's own, and ends it.
 #[derive(Clone, Copy)]
 pub struct Listed {
-    pub refusal: Refusal,
+    pub answer: Result<(), Error>,
     pub taken: usize,
     pub written: usize,
     pub listing: Listing,
@@ -45,6 +46,16 @@ pub fn names(output: &mut [u8]) -> Result<usize, Error>
         return Err(Error::ShortOutput);
     }
     Ok(put_names(output))
+}
+
+// The number of an error that ended a capture, 0 where none did.
+fn number(error: Option<RecordError>) -> u64
+    ensures { result ≡ (refused error).number }
+{
+    match error {
+        Some(error) => Refusal::from(error).number,
+        None => 0,
+    }
 }
 
 impl Listing {
@@ -63,15 +74,11 @@ impl Listing {
     pub fn is_sound(self) -> bool
         ensures { result ≡ sound_listing self }
     {
-        let buffered = self.parser.buffered();
-        if buffered.refusal.number != 0 {
+        let Ok(held) = self.parser.buffered() else {
             return false;
-        }
-        if !is_settled(self.parser) {
-            return false;
-        }
-        let held = buffered.count as u64;
-        reached(self.offset, self.open, held, self.parser.error.number)
+        };
+        let refused = number(self.parser.error);
+        is_settled(self.parser) && reached(self.offset, self.open, held as u64, refused)
     }
 
     // The last line.
@@ -84,12 +91,7 @@ impl Listing {
         if output.len() < LINE {
             return Err(Error::ShortOutput);
         }
-        let buffered = self.parser.buffered();
-        Ok(put_ending(
-            output,
-            self.offset,
-            self.parser.error.number,
-            buffered.count as u64,
-        ))
+        let held = self.parser.buffered()?;
+        Ok(put_ending(output, self.offset, number(self.parser.error), held as u64))
     }
 }

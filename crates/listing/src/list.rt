@@ -1,12 +1,13 @@
 // The link listing (01) made a piece at a time: the lines of the records that a piece completes.
-ghost use Rattle.std.specs.Prelude.{◌≡◌, true, ◌+◌, ◌-◌, ◌^◌, ◌≤◌, ◌<◌, min, length, drop};
+ghost use Rattle.std.specs.Prelude.{◌≡◌, true, Some, ◌+◌, ◌-◌, ◌^◌, ◌≤◌, ◌<◌, min, length, drop};
 ghost use Rattle.wire.specs.Bytes.{overlay};
-ghost use Rattle.wire.specs.Refusals.{none};
+ghost use Rattle.wire.specs.Refusals.{verdict, first};
 ghost use Rattle.record.specs.Types.{code_of};
+ghost use Rattle.parser.specs.Push.{progressed};
 ghost use Rattle.listing.specs.Reach.{limit};
 ghost use Rattle.listing.specs.Settled.{settled};
 ghost use Rattle.listing.specs.Listing.{open_after};
-ghost use Rattle.listing.specs.Steps.{listing_of, read_of, sound_listing, listed, line_of, record_listed, step_of, further, lines, list_of, outcome};
+ghost use Rattle.listing.specs.Steps.{listing_of, read_of, sound_listing, listed, answered, line_of, record_listed, step_of, further, lines, list_rows, list_of, outcome};
 
 use crate::reach::LIMIT;
 use crate::settle::settle;
@@ -14,157 +15,145 @@ use crate::{Listed, Listing};
 use outer::OUTER_MAX_PAYLOAD;
 use outer::payloads::value;
 use parser::push::push;
-use parser::{Pushed, payload};
-use record::Record;
+use parser::{Complete, payload};
+use record::types::RecordType;
 use text::lines::{LINE, Line};
-use wire::Refusal;
+use wire::errors::Error;
 
-// Nothing changed.
-fn stop(listing: Listing, refusal: Refusal) -> Listed
-    ensures { result ≡ listed refusal 0 0 listing }
+// Nothing is taken and nothing is written.
+fn still(listing: Listing, answer: Result<(), Error>) -> Listed
+    ensures { answered result ≡ listed (verdict answer) 0 0 listing }
 {
     Listed {
-        refusal,
+        answer,
         taken: 0,
         written: 0,
         listing,
     }
 }
 
-fn least(a: usize, b: u64) -> usize
-    ensures { result ≡ min b a }
-{
-    if b < a as u64 { b as usize } else { a }
-}
-
-// What a CREDIT leaves of open: its value is taken off, or all of open if that is less.
-fn credited(open: u64, amount: u64) -> u64
-    ensures { result ≡ «open» - amount }
-{
-    if open < amount {
-        return 0;
-    }
-    open - amount
-}
-
-// Open as it stands after a record of a type's code, with a payload of `size` bytes.
-fn open_after(open: u64, code: u8, size: usize, payload: &[u8]) -> u64
+// Open as it stands after a record of a type with a payload of `size` bytes. A CREDIT takes off its
+// value, or all of open if that is less.
+#[tactic(auto, unfolding(crate::specs::Listing::open_after))]
+fn open_after(open: u64, record_type: RecordType, size: usize, payload: &[u8]) -> u64
     requires { «open» + size < 2 ^ 64 }
-    ensures { result ≡ open_after «open» code size payload.now }
+    ensures { result ≡ open_after «open» (code_of record_type) size payload.now }
 {
-    if code == 3 {
-        return 0;
+    match record_type {
+        RecordType::Reset => 0,
+        RecordType::Data => open + size as u64,
+        RecordType::Credit => open.saturating_sub(value(payload) as u64),
+        _ => open,
     }
-    if code == 5 {
-        return open + size as u64;
-    }
-    if code == 9 {
-        return credited(open, value(payload) as u64);
-    }
-    open
 }
 
-// The code of a record's type.
-fn code_of(record: Record) -> u8
-    ensures { result ≡ code_of «record».record_type }
-{
-    let record_type = record.record_type;
-    record_type.code()
-}
-
-// A record is complete: its line, and the state after it. It stands at `offset`, and `before` is
-// open before it.
+// A record is complete: its line, and the state after it. `before` is the listing before it with the
+// parser that the push left, and `taken` the bytes that the push took.
 fn record_line(
-    offset: u64,
-    before: u64,
-    pushed: Pushed,
+    before: Listing,
+    taken: usize,
+    complete: Complete,
     payload: &[u8],
     output: &mut [u8],
     at: usize,
 ) -> Listed
-    requires { (at + 126 ≤ length output.old) × (before ≤ offset) × (offset + (44 + pushed.«record».length) < 2 ^ 64) }
-    ensures { (result ≡ record_listed (listing_of pushed.parser offset before) pushed payload.now at) × (output.new ≡ overlay output.old at (line_of (listing_of pushed.parser offset before) pushed.«record» payload.now)) }
+    requires { (at + 126 ≤ length output.old) × (before.«open» ≤ before.offset) × (before.offset + (44 + complete.«record».length) < 2 ^ 64) }
+    ensures { (answered result ≡ record_listed before (progressed (Some complete) taken before.parser) payload.now at) × (output.new ≡ overlay output.old at (line_of before complete.«record» payload.now)) }
 {
-    let code = code_of(pushed.record);
-    let open = open_after(before, code, pushed.record.length, payload);
+    let record = complete.record;
+    let open = open_after(before.open, record.record_type, record.length, payload);
     let line = Line {
-        offset,
-        code: code as u64,
-        epoch: pushed.record.epoch.0,
-        sequence: pushed.record.sequence.0,
-        size: pushed.record.length as u64,
+        offset: before.offset,
+        code: record.record_type.code() as u64,
+        epoch: record.epoch.0,
+        sequence: record.sequence.0,
+        size: record.length as u64,
         open,
     };
     let written = line.put(output, at);
-    let empty = settle(pushed.parser);
     Listed {
-        refusal: Refusal::none(),
-        taken: pushed.consumed,
+        answer: Ok(()),
+        taken,
         written,
         listing: Listing {
-            parser: empty,
-            offset: offset + (44 + pushed.record.length as u64),
+            parser: settle(before.parser),
+            offset: before.offset + (44 + record.length as u64),
             open,
         },
     }
 }
 
-// No record is complete, so there is no line.
-fn no_line(listing: Listing, pushed: Pushed, at: usize) -> Listed
-    ensures { result ≡ listed pushed.refusal pushed.consumed at (listing_of (settled pushed.parser) listing.offset listing.«open») }
+// No record is complete, so there is no line. `before` is the listing before the push with the parser
+// that it left.
+fn no_line(before: Listing, answer: Result<(), Error>, taken: usize, at: usize) -> Listed
+    ensures { answered result ≡ listed (verdict answer) taken at (listing_of (settled before.parser) before.offset before.«open») }
 {
-    let refusal = pushed.refusal;
-    let parser = settle(pushed.parser);
     Listed {
-        refusal,
-        taken: pushed.consumed,
+        answer,
+        taken,
         written: at,
         listing: Listing {
-            parser,
-            offset: listing.offset,
-            open: listing.open,
+            parser: settle(before.parser),
+            ..before
         },
     }
 }
 
-// One push, and the line of the record that it completes.
+// One push, and the line of the record that it completes. That the listing is sound and that there is
+// room is a condition of each step: listing, stage and output are the caller's.
 fn step(listing: Listing, piece: &[u8], stage: &mut [u8], output: &mut [u8], at: usize) -> Listed
     requires { (sound_listing listing ≡ true) × (65536 ≤ length stage.old) × (at + 126 ≤ length output.old) × (read_of listing + length piece.now ≤ limit) }
-    ensures { outcome result stage.new output.new ≡ step_of listing piece.now stage.old output.old at }
+    ensures { outcome (answered result) stage.new output.new ≡ step_of listing piece.now stage.old output.old at }
 {
     let pushed = push(listing.parser, piece, stage);
-    if pushed.complete {
-        let place = pushed.place;
-        let bytes = payload(piece, stage, place, pushed.record.length);
-        return record_line(listing.offset, listing.open, pushed, bytes, output, at);
+    let before = Listing {
+        parser: pushed.parser,
+        ..listing
+    };
+    match pushed.answer {
+        Ok(progress) => match progress.complete {
+            Some(complete) => {
+                let bytes = payload(piece, stage, complete.place, complete.record.length);
+                record_line(before, progress.consumed, complete, bytes, output, at)
+            }
+            None => no_line(before, Ok(()), progress.consumed, at),
+        },
+        Err(error) => no_line(before, Err(error), 0, at),
     }
-    no_line(listing, pushed, at)
 }
 
 // One push more: `done` is what was done before it.
 fn turn(done: Listed, piece: &[u8], stage: &mut [u8], output: &mut [u8]) -> Listed
     requires { (sound_listing done.listing ≡ true) × (65536 ≤ length stage.old) × (done.written + 126 ≤ length output.old) × (read_of done.listing + length piece.now ≤ limit + done.taken) × (done.taken ≤ length piece.now) × (length piece.now ≤ limit) }
-    ensures { outcome result stage.new output.new ≡ further done.taken (step_of done.listing (drop done.taken piece.now) stage.old output.old done.written) }
+    ensures { outcome (answered result) stage.new output.new ≡ further done.taken (step_of done.listing (drop done.taken piece.now) stage.old output.old done.written) }
 {
-    let taken = done.taken;
-    let mut r = step(done.listing, &piece[taken..], stage, output, done.written);
-    r.taken = taken + r.taken;
-    r
+    let r = step(
+        done.listing,
+        &piece[done.taken..],
+        stage,
+        output,
+        done.written,
+    );
+    Listed {
+        taken: done.taken + r.taken,
+        ..r
+    }
 }
 
 // Record by record, while bytes are left, nothing is refused and the output has room for a line.
-fn list_records(start: Listed, piece: &[u8], stage: &mut [u8], output: &mut [u8]) -> Listed
-    requires { (start ≡ listed none 0 0 start.listing) × (sound_listing start.listing ≡ true) × (65536 ≤ length stage.old) × (126 ≤ length output.old) × (read_of start.listing + length piece.now ≤ limit) }
-    ensures { outcome result stage.new output.new ≡ lines (length piece.now) start.listing piece.now stage.old output.old 0 0 }
+fn list_records(listing: Listing, piece: &[u8], stage: &mut [u8], output: &mut [u8]) -> Listed
+    requires { (sound_listing listing ≡ true) × (65536 ≤ length stage.old) × (126 ≤ length output.old) × (read_of listing + length piece.now ≤ limit) }
+    ensures { outcome (answered result) stage.new output.new ≡ lines (length piece.now) listing piece.now stage.old output.old 0 0 }
 {
     let last = output.len() - LINE;
-    let mut done = start;
+    let mut done = still(listing, Ok(()));
+    // Each turn takes what one push took, so no iterator walks the piece.
     while done.taken < piece.len() {
         if last < done.written {
             return done;
         }
         done = turn(done, piece, stage, output);
-        if done.refusal.number != 0 {
+        if done.answer.is_err() {
             return done;
         }
     }
@@ -176,28 +165,42 @@ fn room(listing: Listing, size: usize) -> usize
     requires { sound_listing listing ≡ true }
     ensures { result ≡ min (limit - read_of listing) size }
 {
-    let buffered = listing.parser.buffered();
-    least(size, LIMIT - (listing.offset + buffered.count as u64))
+    let Ok(held) = listing.parser.buffered() else {
+        return 0;
+    };
+    size.min((LIMIT - (listing.offset + held as u64)) as usize)
+}
+
+// What stops the listing of a piece: 23, 21, 22, or the error that ended the capture.
+fn ready(listing: Listing, stage: &[u8], output: &[u8]) -> Result<(), Error>
+    ensures { verdict result ≡ first (list_rows listing stage.now output.now) }
+{
+    if !listing.is_sound() {
+        return Err(Error::Unsound);
+    }
+    if stage.len() < OUTER_MAX_PAYLOAD {
+        return Err(Error::ShortStage);
+    }
+    if output.len() < LINE {
+        return Err(Error::ShortOutput);
+    }
+    match listing.parser.error {
+        Some(error) => Err(Error::Record(error)),
+        None => Ok(()),
+    }
 }
 
 // Takes the next piece of the capture, and writes the lines of the records that it completes at
 // the output's start, as many as fit. What is not taken is to be given again, unless reading
 // has ended. The stage is the parser's: payload bytes that come in several pieces lie in it.
 pub fn list(listing: Listing, piece: &[u8], stage: &mut [u8], output: &mut [u8]) -> Listed
-    ensures { outcome result stage.new output.new ≡ list_of listing piece.now stage.old output.old }
+    ensures { outcome (answered result) stage.new output.new ≡ list_of listing piece.now stage.old output.old }
 {
-    if !listing.is_sound() {
-        return stop(listing, Refusal::new(23, 0, 0, 0));
+    match ready(listing, stage, output) {
+        Ok(()) => {
+            let n = room(listing, piece.len());
+            list_records(listing, &piece[0..n], stage, output)
+        }
+        Err(error) => still(listing, Err(error)),
     }
-    if stage.len() < OUTER_MAX_PAYLOAD {
-        return stop(listing, Refusal::new(21, 0, 0, 0));
-    }
-    if output.len() < LINE {
-        return stop(listing, Refusal::new(22, 0, 0, 0));
-    }
-    if listing.parser.error.number != 0 {
-        return stop(listing, listing.parser.error);
-    }
-    let n = room(listing, piece.len());
-    list_records(stop(listing, Refusal::none()), &piece[0..n], stage, output)
 }

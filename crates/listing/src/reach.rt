@@ -14,28 +14,15 @@ fn data_needed(open: u64) -> u64
 }
 
 // Whether other records can take `rest` bytes, where those DATA could carry `room` bytes more.
+#[tactic(auto, using(std::proofs::lemmas::Bool::Decides::nat_tests), unfolding(crate::specs::Reach::others))]
 fn others(room: u64, rest: u64) -> bool
     ensures { result ≡ others room rest }
 {
-    if rest == 0 {
-        return true;
-    }
-    if rest == 44 {
-        return true;
-    }
-    if rest == 76 {
-        return true;
-    }
-    if 88 <= rest {
-        return true;
-    }
-    if rest < 48 {
-        return false;
-    }
-    rest - 48 <= room
+    rest == 0 || rest == 44 || rest == 76 || 88 <= rest || 48 <= rest && rest - 48 <= room
 }
 
 // Whether whole records can have `offset` bytes and leave `open`.
+#[tactic(auto, using(std::proofs::lemmas::Bool::Decides::nat_tests), unfolding(crate::specs::Reach::adds_up))]
 fn adds_up(offset: u64, open: u64) -> bool
     requires { offset ≤ limit }
     ensures { result ≡ adds_up offset «open» }
@@ -45,36 +32,27 @@ fn adds_up(offset: u64, open: u64) -> bool
     }
     let needed = data_needed(open);
     let bytes = open + 44 * needed;
-    if offset < bytes {
-        return false;
-    }
-    others(65536 * needed - open, offset - bytes)
+    bytes <= offset && others(65536 * needed - open, offset - bytes)
 }
 
-// The bytes of a refused record that were read.
+// The bytes of a refused record that were read, by its number: 1 to 6 are the header's.
+#[tactic(auto, using(std::proofs::lemmas::Bool::Decides::nat_tests), unfolding(crate::specs::Reach::refused_bytes))]
 fn refused_bytes(number: u64) -> u64
     ensures { result ≡ refused_bytes number }
 {
-    if number == 0 {
-        return 0;
+    match number {
+        0 => 0,
+        1..=6 => 44,
+        _ => 48,
     }
-    if number <= 6 {
-        return 44;
-    }
-    48
 }
 
 // Whether at most 2^62 bytes were read.
+#[tactic(auto, using(std::proofs::lemmas::Bool::Decides::nat_tests))]
 fn within_limit(offset: u64, held: u64, refused: u64) -> bool
     ensures { result ≡ leb ((offset + held) + refused) limit }
 {
-    if LIMIT < offset {
-        return false;
-    }
-    if LIMIT - offset < held {
-        return false;
-    }
-    refused <= LIMIT - offset - held
+    offset <= LIMIT && held <= LIMIT - offset && refused <= LIMIT - offset - held
 }
 
 // Whether some capture leaves these counts: whole records of `offset` bytes that leave `open`, then
@@ -82,8 +60,5 @@ fn within_limit(offset: u64, held: u64, refused: u64) -> bool
 pub(crate) fn reached(offset: u64, open: u64, held: u64, number: u64) -> bool
     ensures { result ≡ reached offset «open» held number }
 {
-    if !within_limit(offset, held, refused_bytes(number)) {
-        return false;
-    }
-    adds_up(offset, open)
+    within_limit(offset, held, refused_bytes(number)) && adds_up(offset, open)
 }

@@ -1,12 +1,35 @@
 // What a listing keeps of its parser, so that a listing which no calls leave can be told (23).
-ghost use Rattle.std.specs.Prelude.{◌≡◌, drop};
+ghost use Rattle.std.specs.Prelude.{◌≡◌, drop, Some};
+ghost use Rattle.wire.specs.Refusals.{refusal, record_refusal, refused};
 ghost use Rattle.record.specs.Record.{all_zero};
+ghost use Rattle.parser.specs.Push.{latch};
 ghost use Rattle.listing.specs.Settled.{settled, number_only, is_settled};
 
 use outer::OUTER_HEADER_LEN;
 use parser::RecordParser;
-use record::checks::all_zero;
 use wire::Refusal;
+use wire::errors::RecordError;
+
+// What a listing keeps of an error that ended the capture: which of 1 to 9 it is, its figures 0.
+#[tactic(auto, unfolding(parser::specs::Push::latch))]
+fn bare(error: RecordError) -> RecordError
+    ensures { Some result ≡ latch (refusal (record_refusal error).number 0 0 0) }
+{
+    match error {
+        RecordError::Magic(_) => RecordError::Magic(0),
+        RecordError::Version(_) => RecordError::Version(0),
+        RecordError::Type(_) => RecordError::Type(0),
+        RecordError::Flags(_) => RecordError::Flags(0),
+        RecordError::Length { .. } => RecordError::Length {
+            record_type: 0,
+            length: 0,
+        },
+        RecordError::BootstrapIdentity(_) => RecordError::BootstrapIdentity(0),
+        RecordError::ErrorCode(_) => RecordError::ErrorCode(0),
+        RecordError::ReceiveWindow(_) => RecordError::ReceiveWindow(0),
+        RecordError::Credit(_) => RecordError::Credit(0),
+    }
+}
 
 // What a listing keeps of a parser: between records no byte of a header, and of a refusal its
 // number alone.
@@ -17,56 +40,38 @@ pub(crate) fn settle(parser: RecordParser) -> RecordParser
         return parser;
     }
     RecordParser {
-        header: [0u8; 44],
-        header_len: 0,
-        payload_len: 0,
-        error: Refusal::new(parser.error.number, 0, 0, 0),
+        error: parser.error.map(bare),
+        ..RecordParser::new()
     }
 }
 
-// Whether a refusal is its number alone.
-fn is_number(refusal: Refusal) -> bool
-    ensures { result ≡ number_only refusal }
+// Whether no more of an error is kept than its number: 01's record of it has zeros beside that.
+#[tactic(auto, unfolding(crate::specs::Settled::number_only))]
+fn is_number(error: Option<RecordError>) -> bool
+    ensures { result ≡ number_only (refused error) }
 {
-    if refusal.a != 0 {
-        return false;
+    match error {
+        Some(error) => {
+            let refusal = Refusal::from(error);
+            refusal == Refusal::new(refusal.number, 0, 0, 0)
+        }
+        None => true,
     }
-    if refusal.b != 0 {
-        return false;
-    }
-    if refusal.c != 0 {
-        return false;
-    }
-    let expected = refusal.expected;
-    if !all_zero(expected) {
-        return false;
-    }
-    let actual = refusal.actual;
-    all_zero(actual)
 }
 
 // Whether the bytes of a header are all zero from an index on.
 fn zero_from(header: [u8; 44], from: usize) -> bool
     ensures { result ≡ all_zero (drop «from» header) }
 {
-    let mut zero = true;
-    let mut i = from;
-    while i < OUTER_HEADER_LEN {
-        if header[i] != 0 {
-            zero = false;
-        }
-        i += 1;
-    }
-    zero
+    header[from.min(OUTER_HEADER_LEN)..]
+        .iter()
+        .all(|byte| *byte == 0)
 }
 
 // Whether no more of a parser is kept than a listing keeps.
+#[tactic(auto, unfolding(crate::specs::Settled::is_settled))]
 pub(crate) fn is_settled(parser: RecordParser) -> bool
     ensures { result ≡ is_settled parser }
 {
-    if !is_number(parser.error) {
-        return false;
-    }
-    let header = parser.header;
-    zero_from(header, parser.header_len)
+    is_number(parser.error) && zero_from(parser.header, parser.header_len)
 }

@@ -1,20 +1,20 @@
 -- The loop over a piece: the calls so far were lent its first bytes, and one more call is lent the rest. Assumes nothing.
 use Prim.Native.Nat.{ℕ, ◌+◌, ◌-◌, ◌≤◌}
 use mathlib.Core.Path.{◌≡◌, refl, sym, ap, subst, ◌∙◌}
-use mathlib.Core.Bool.{true, false}
 use mathlib.Core.List.{List, [], ◌∷◌, ◌++◌, append-nil}
 use native.Mathlib.Omega.{arith}
 use lib.ListN.{length, take, drop, length-drop, drop_of_length-le}
 use lib.Seq.{drop-drop}
 use Rattle.wire.proofs.PartLaws.{part_end}
 use Rattle.text.specs.Lines.{line_room}
-use Rattle.listing.specs.Steps.{Outcome, outcome, list_of}
+use Rattle.listing.specs.Steps.{Listed, Outcome, outcome, list_of}
 use Rattle.listing.specs.Calls.{Calls, stop, call, written}
 use Rattle.listing.specs.declared.Listing.{Listing}
-use Rattle.listing.specs.declared.Listed.{Listed}
 use Rattle.listing.proofs.Bounds.{list_within}
+use Rattle.std.specs.Prelude.{Option, Some, None}
+use Rattle.std.specs.Io.KnownBytes.{Keeps, Consumes}
 use Rattle.nvxs_list.specs.Feeding.{Feeds}
-use Rattle.nvxs_list.specs.declared.Fed.{Fed}
+use Rattle.std.specs.declared.ops.ControlFlow.TheVariants.{Continue, Break}
 
 -- one more call
 calls_more : {s t : Listing} {stage input left after : List ℕ} {texts : List (List ℕ)} → Calls s stage input left t after texts → (piece rest output : List ℕ)
@@ -67,13 +67,21 @@ module _ {s₀ : Listing} {piece stage₀ output₀ : List ℕ} {s : Listing} {s
 
 module _ {s₀ : Listing} {piece stage₀ output₀ : List ℕ} {s : Listing} {stage output : List ℕ} {taken : ℕ} (f : FedSoFar s₀ piece stage₀ output₀ s stage output taken) where
   -- the ways out: it stops, or the piece is at its end
-  pub feeds_stop : Feeds s₀ piece stage₀ (record { listing = s; more = false }) stage
-  feeds_stop = record { left = drop taken piece; texts = f.texts; calls = f.calls; all = λ e. let z : ◌≡◌ {A = ℕ} 0 1 = cc in absurd (omega arith) }
+  pub feeds_stop : Feeds s₀ piece stage₀ (Break s) stage
+  feeds_stop = record { left = drop taken piece; texts = f.texts; calls = f.calls; all = λ t e. cc }
 
-  pub feeds_all : length piece ≤ taken → Feeds s₀ piece stage₀ (record { listing = s; more = true }) stage
-  feeds_all h = record { left = drop taken piece; texts = f.texts; calls = f.calls; all = λ _. drop_of_length-le piece {i = taken} h }
+  pub feeds_all : length piece ≤ taken → Feeds s₀ piece stage₀ (Continue s) stage
+  feeds_all h = record { left = drop taken piece; texts = f.texts; calls = f.calls; all = λ _ _. drop_of_length-le piece {i = taken} h }
 
--- the first bytes of a buffer, as the code takes them
-pub feeds_part : {s : Listing} (k : ℕ) (buffer stage : List ℕ) (r : Fed) (after : List ℕ) → Feeds s (take (k - 0) (drop 0 buffer)) stage r after
-    → Feeds s (take k buffer) stage r after
-feeds_part {s} k buffer stage r after f = let e : k - 0 ≡ k = omega arith in subst (λ (n : ℕ). Feeds s (take n buffer) stage r after) e f
+-- where reading ended nothing was consumed, and nothing is handed on
+module _ (s : Listing) (buffer stage : List ℕ) (old new : Option (List ℕ)) where
+  pub feeds_end : Consumes old new [] → (n : ℕ) × Consumes old new (take n buffer) × Feeds s (take n buffer) stage (Break s) stage
+  feeds_end h = (0, h, record { left = []; texts = []; calls = stop; all = λ t e. refl })
+
+  pub feeds_failed : Keeps old new → (n : ℕ) × Consumes old new (take n buffer) × Feeds s (take n buffer) stage (Break s) stage
+  feeds_failed k = feeds_end (kept old new k)
+    where
+      kept : (a b : Option (List ℕ)) → Keeps a b → Consumes a b []
+      kept None b q = tt
+      kept (Some x) None q = q
+      kept (Some x) (Some y) q = sym q

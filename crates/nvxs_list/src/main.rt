@@ -1,125 +1,87 @@
 // Lists the records of a capture: standard input to standard output (01, "The link listing").
 #![tactic(auto)]
 
-ghost use Rattle.std.specs.Prelude.{◌≡◌, true, ◌≤◌, ◌<◌, length, take};
+ghost use Rattle.std.specs.Prelude.{◌≡◌, true, ◌≤◌, ◌<◌, ℕ, length, take};
+ghost use Rattle.std.specs.Io.KnownBytes.{Consumes};
 ghost use Rattle.nvxs_list.specs.Feeding.{Feeds};
 
 use listing::list::list;
 use listing::{LIMIT, Listing, names};
 use std::io::{Read, Stdin};
+use std::ops::ControlFlow;
+use wire::errors::Error;
 
-// The listing after a piece, and whether there is more to read: not after a refusal, at the end of
-// reading, or where the output is closed.
-#[derive(Clone, Copy)]
-struct Fed {
-    listing: Listing,
-    more: bool,
-}
+// The listing after a piece: `Continue` where there is more to read, and `Break` after a refusal, at
+// the end of reading, or where the output is closed.
+type Fed = ControlFlow<Listing, Listing>;
 
-// Writes the first bytes of the output, and answers whether all went out.
-fn flush(output: &[u8], count: usize) -> bool {
-    if count <= output.len() {
-        return io::write_all(1, &output[0..count]);
-    }
-    false
+// Writes the text, and answers whether all of it went out.
+fn flush(text: Option<&[u8]>) -> bool {
+    text.is_some_and(|text| io::write_all(1, text))
 }
 
 // Whether there is more to list: what was written went out, nothing was refused, and bytes were
 // taken.
-fn goes_on(out: bool, number: u64, taken: usize) -> bool
+fn goes_on(out: bool, answer: Result<(), Error>, taken: usize) -> bool
     ensures { result ≡ true → 0 < taken }
 {
-    if !out {
-        return false;
-    }
-    if number != 0 {
-        return false;
-    }
-    0 < taken
+    out && answer.is_ok() && 0 < taken
 }
 
-// A piece, listed and written as often as it takes.
+// A piece, listed and written as often as it takes. The output is a slice with room for a line, as
+// `list` has it, in each function down to the call.
 fn feed(start: Listing, piece: &[u8], stage: &mut [u8], output: &mut [u8]) -> Fed
     requires { 126 ≤ length output.old }
     ensures { Feeds start piece.now stage.old result stage.new }
 {
     let mut listing = start;
     let mut taken: usize = 0;
+    // Each turn takes what one call took, so no iterator walks the piece.
     while taken < piece.len() {
         let r = list(listing, &piece[taken..], stage, output);
-        let next = r.listing;
-        listing = next;
+        listing = r.listing;
         taken += r.taken;
-        let out = flush(output, r.written);
-        if !goes_on(out, r.refusal.number, r.taken) {
-            return Fed {
-                listing,
-                more: false,
-            };
+        let out = flush(output.get(..r.written));
+        if !goes_on(out, r.answer, r.taken) {
+            return ControlFlow::Break(listing);
         }
     }
-    Fed {
-        listing,
-        more: true,
-    }
+    ControlFlow::Continue(listing)
 }
 
-// The first bytes of what was read.
-fn feed_first(
-    start: Listing,
-    buffer: &[u8],
-    count: usize,
-    stage: &mut [u8],
-    output: &mut [u8],
-) -> Fed
-    requires { (count ≤ length buffer.now) × (126 ≤ length output.old) }
-    ensures { Feeds start (take count buffer.now) stage.old result stage.new }
-{
-    feed(start, &buffer[0..count], stage, output)
-}
-
-// Reads once and lists what came. A read that fails is the end of the input.
-fn read_once(
-    mut input: Stdin,
+// Reads once and lists all that came. A read that fails is the end of the input.
+fn read_once<R: Read>(
+    input: &mut R,
     listing: Listing,
     buffer: &mut [u8],
     stage: &mut [u8],
     output: &mut [u8],
 ) -> Fed
     requires { 126 ≤ length output.old }
+    ensures { (n : ℕ) × Consumes (R.remaining input.old) (R.remaining input.new) (take n buffer.new) × Feeds listing (take n buffer.new) stage.old result stage.new }
 {
     let Ok(count) = input.read(buffer) else {
         io::write_all(2, b"nvxs_list: standard input cannot be read\n");
-        return Fed {
-            listing,
-            more: false,
-        };
+        return ControlFlow::Break(listing);
     };
     if count == 0 {
-        return Fed {
-            listing,
-            more: false,
-        };
+        return ControlFlow::Break(listing);
     }
-    feed_first(listing, buffer, count, stage, output)
+    feed(listing, &buffer[..count], stage, output)
 }
 
 // Reads to the end, and lists. Each turn but the last reads a byte or more, so that LIMIT turns are
 // enough.
-fn read_all(input: Stdin, output: &mut [u8]) -> Listing
+fn read_all(mut input: Stdin, output: &mut [u8]) -> Listing
     requires { 126 ≤ length output.old }
 {
     let mut stage = [0u8; 65536];
     let mut buffer = [0u8; 262144];
     let mut listing = Listing::new();
-    let mut turns = LIMIT;
-    while 0 < turns {
-        turns -= 1;
-        let fed = read_once(input, listing, &mut buffer, &mut stage, output);
-        let next = fed.listing;
-        listing = next;
-        if !fed.more {
-            return listing;
+    for _ in 0..LIMIT {
+        match read_once(&mut input, listing, &mut buffer, &mut stage, output) {
+            ControlFlow::Continue(next) => listing = next,
+            ControlFlow::Break(last) => return last,
         }
     }
     listing
@@ -130,10 +92,10 @@ fn main(rt: HostRuntime) {
     let Ok(first) = names(&mut output) else {
         return;
     };
-    if flush(&output, first) {
+    if flush(output.get(..first)) {
         let listing = read_all(rt.stdin(), &mut output);
         if let Ok(last) = listing.end(&mut output) {
-            flush(&output, last);
+            flush(output.get(..last));
         }
     }
 }

@@ -7,10 +7,10 @@ pub loop-taken-init : goal.loop-taken-init
 loop-taken-init c = fed_first _ _ _ _
 
 pub overflow_add-taken : goal.overflow_add-taken
-overflow_add-taken c = omega (arith, fed_within c.loop-taken.invariant c.list-r.result _ _ c.requires c.list-r.ensures)
+overflow_add-taken c = omega (arith, fed_within c.loop-taken.invariant _ _ _ c.requires c.list-r.ensures)
 
 pub returns-then-not-goes_on : goal.returns-then-not-goes_on
-returns-then-not-goes_on c = feeds_stop (fed_more c.loop-taken.invariant c.list-r.result _ _ c.requires c.list-r.ensures (search rules) (search rules))
+returns-then-not-goes_on c = feeds_stop (fed_more c.loop-taken.invariant _ _ _ c.requires c.list-r.ensures (search rules) (search rules))
 
 pub loop-taken-preserved : goal.loop-taken-preserved
-loop-taken-preserved c = fed_more c.loop-taken.invariant c.list-r.result _ _ c.requires c.list-r.ensures (search rules) (search rules)
+loop-taken-preserved c = fed_more c.loop-taken.invariant _ _ _ c.requires c.list-r.ensures (search rules) (search rules)

@@ -3,4 +3,4 @@ use Rattle.listing.proofs.Cases.{record_line_lem}
 use Rattle.listing.proofs.list.record_line.Goals as goal
 
 pub returns : goal.returns
-returns c = let a = c.args in record_line_lem a.offset a.before a.pushed _ _ a.at c.code_of-code.result c.open_after-open.result _ _ c.requires.0 c.code_of-code.ensures c.open_after-open.ensures c.none.ensures c.settle-empty.ensures c.put-written.ensures
+returns c = let a = c.args in record_line_lem a.before a.complete a.taken _ _ a.at c.code.result c.open_after-open.result _ c.requires.0 c.code.ensures c.open_after-open.ensures c.settle.ensures c.put-written.ensures

@@ -1,18 +1,13 @@
--- `listing::settle::is_number` meets its contract. Each return is a case of its rule, `numbering` of proofs/Settled. Assumes nothing.
-use Rattle.listing.proofs.Settled.{numbering}
+-- `listing::settle::is_number` meets its contract: of an error, equal to its number alone is what `number_is` of proofs/Settled says. Assumes nothing.
+use Rattle.std.proofs.Common.{rules, refl, ap, ◌∙◌}
+use Rattle.record.specs.Record.{all_zero}
+use Rattle.listing.specs.Settled.{number_only}
+use Rattle.listing.proofs.Settled.{number_is}
 use Rattle.listing.proofs.settle.is_number.Goals as goal
 
-pub returns-then-refusal-ne0 : goal.returns-then-refusal-ne0
-returns-then-refusal-ne0 c = search numbering
+pub returns-in-Some : goal.returns-in-Some
+returns-in-Some c = rw c.in-Some.is (c.eq.ensures ∙ number_is _ _ c.new.ensures (search rules) (search rules) ∙ ap number_only c.from-refusal.ensures)
 
-pub returns-then-refusal-ne0-2 : goal.returns-then-refusal-ne0-2
-returns-then-refusal-ne0-2 c = search numbering
-
-pub returns-then-refusal-ne0-3 : goal.returns-then-refusal-ne0-3
-returns-then-refusal-ne0-3 c = search numbering
-
-pub returns-then-not-all_zero : goal.returns-then-not-all_zero
-returns-then-not-all_zero c = search numbering
-
-pub returns : goal.returns
-returns c = search numbering
+pub returns-in-None : goal.returns-in-None
+unfolding number_only all_zero
+returns-in-None c = rw c.in-None.is refl
