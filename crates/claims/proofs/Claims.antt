@@ -19,6 +19,7 @@ use Rattle.text.specs.Decimal.{number, decimal, decimal_in}
 use Rattle.outer.specs.Outer as outer
 use Rattle.wire.specs.declared.Refusal.{Refusal}
 use Rattle.wire.proofs.Rows.{picked, pass_all}
+use Rattle.parser.specs.Push.{latched}
 use Rattle.parser.specs.Push.{buffered_of, held_in}
 use Rattle.claims.proofs.Outcomes.{true_not_false, ready_scan}
 use Rattle.claims.proofs.Feeds.{bytes_in}
@@ -60,25 +61,25 @@ module _ (t : Listing) (after left : List ℕ) (g : Good t after) where
   b = bytes_in t.parser after
 
   -- with no refusal, where none of the bytes to come is read
-  held_only : passes t.parser.error ≡ true → take (limit - t.offset) (b ++ left) ≡ b → future t after left ≡ end_line t
+  held_only : passes (latched t.parser) ≡ true → take (limit - t.offset) (b ++ left) ≡ b → future t after left ≡ end_line t
   unfolding end_line
   held_only on e =
-      let z : t.parser.error.number ≡ 0 = eqb-true t.parser.error.number 0 on in
+      let z : (latched t.parser).number ≡ 0 = eqb-true (latched t.parser).number 0 on in
       future_on t after left on
       ∙ ap (lines_from t.offset t.«open») e
       ∙ unfinished_lines t.offset t.«open» b (ready_scan t.parser (held_in t.parser after) (g.ready on))
       ∙ (λ i. ending t.offset (sym z i) (held_length t.parser after (g.ready on) i))
 
-  end_refused : passes t.parser.error ≡ false → future t after left ≡ end_line t
+  end_refused : passes (latched t.parser) ≡ false → future t after left ≡ end_line t
   unfolding end_line
   end_refused off =
       let f = facts t g.sound in
-      future_off t after left off ∙ ap (ending t.offset t.parser.error.number) (sym (again t.parser 65536 [] [] f.parser off (omega arith)).buffered)
+      future_off t after left off ∙ ap (ending t.offset (latched t.parser).number) (sym (again t.parser 65536 [] [] f.parser off (omega arith)).buffered)
 
   end_future : Ended t left → future t after left ≡ end_line t
-  end_future e = go (passes t.parser.error) refl e
+  end_future e = go (passes (latched t.parser)) refl e
     where
-      go : (p : Bool) → passes t.parser.error ≡ p → Ended t left → future t after left ≡ end_line t
+      go : (p : Bool) → passes (latched t.parser) ≡ p → Ended t left → future t after left ≡ end_line t
       go false off e = end_refused off
       go true on (refused off) = end_refused off
       go true on (all_taken q) =

@@ -14,6 +14,7 @@ use Rattle.wire.specs.Header.{length_of}
 use Rattle.wire.specs.declared.Refusal.{Refusal}
 use Rattle.record.specs.Record.{record_of}
 use Rattle.record.specs.declared.Record.{Record}
+use Rattle.parser.specs.Push.{latch}
 use Rattle.parser.specs.Push.{Push, parser_of, push, head_with, push_stage, push_of, held_in, needed_of, buffered_of}
 use Rattle.parser.specs.declared.RecordParser.{RecordParser}
 use Rattle.claims.specs.Reading.{held_bytes, Ready, joined, payload_of, Run, ran, following, drain, drained, Seen, seen, CuttingNeverMatters}
@@ -26,7 +27,7 @@ use Rattle.claims.proofs.Feeds.{Placed, bytes_in, matches, placed_next, bytes_ne
 -- ---- a run is what the string reads as
 pub data Drains (b : List ℕ) (r : Run) : Type 0 where
   goes : r.refusal ≡ none → Placed r.parser r.stage → Reads b r.records (within (bytes_in r.parser r.stage)) → Drains b r
-  stops : passes r.refusal ≡ false → (h : List ℕ) → r.parser ≡ parser_of h 0 0 r.refusal → Reads b r.records (refusing r.refusal) → Drains b r
+  stops : passes r.refusal ≡ false → (h : List ℕ) → r.parser ≡ parser_of h 0 0 (latch r.refusal) → Reads b r.records (refusing r.refusal) → Drains b r
 
 record_drains : {b h y c : List ℕ} {i : Record × List ℕ} {r : Run} → Framed h y → scan b ≡ whole h y → b ≡ (h ++ y) ++ c → i ≡ (record_of h, y)
     → Drains c r → Drains b (following (i ∷ []) r)
@@ -79,7 +80,7 @@ module _ (p : RecordParser) (stage piece : List ℕ) (c : Placed p stage) where
   drain_as n (refused r) q t l k =
       subst (Drains (b ++ piece)) (sym (drain_is n false t.complete))
       (stops (ap (λ (x : Refusal). passes x) t.refusal ∙ t.numbered) (head_with p.header p.header_len piece)
-      (t.parser ∙ ap (parser_of (head_with p.header p.header_len piece) 0 0) (sym t.refusal))
+      (t.parser ∙ ap (λ (x : Refusal). parser_of (head_with p.header p.header_len piece) 0 0 (latch x)) (sym t.refusal))
       (subst (λ (x : Refusal). Reads (b ++ piece) [] (refusing x)) (sym t.refusal) (ends_refused q)))
 
 drain_reads : (n : ℕ) (p : RecordParser) (stage piece : List ℕ) → length piece < n → Placed p stage → Drains (bytes_in p stage ++ piece) (drain n p stage piece)
@@ -150,7 +151,7 @@ see_goes r z c =
       held = bytes_in r.parser r.stage;
     }
 
-see_stops : (r : Run) (h : List ℕ) → r.parser ≡ parser_of h 0 0 r.refusal → seen r ≡ ended r.records r.refusal []
+see_stops : (r : Run) (h : List ℕ) → r.parser ≡ parser_of h 0 0 (latch r.refusal) → seen r ≡ ended r.records r.refusal []
 unfolding needed_of needs
 see_stops r h w = λ j. seen (record { records = r.records; refusal = r.refusal; parser = w j; stage = r.stage })
 

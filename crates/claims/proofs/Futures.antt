@@ -18,9 +18,10 @@ use Rattle.wire.proofs.Rows.{picked}
 use Rattle.record.specs.Types.{code_of}
 use Rattle.record.specs.Record.{record_with}
 use Rattle.record.specs.declared.Record.{Record}
+use Rattle.parser.specs.Push.{latched}
 use Rattle.parser.specs.Push.{sound_parser, Push, push, head_with, push_stage, push_of, held_in, buffered_of, payload_at}
 use Rattle.parser.specs.declared.RecordParser.{RecordParser}
-use Rattle.parser.specs.declared.Pushed.{Pushed}
+use Rattle.parser.specs.Push.{Pushed}
 use Rattle.parser.proofs.Cases.{sound_empty}
 use Rattle.wire.proofs.PartLaws.{overlay_nothing}
 use Rattle.claims.specs.Reading.{Ready}
@@ -35,7 +36,7 @@ use Rattle.text.proofs.Digits.{number_length}
 use Rattle.text.specs.Lines.{line, ending}
 use Rattle.listing.specs.Reach.{limit}
 use Rattle.listing.specs.Listing.{open_after, lines_from}
-use Rattle.listing.specs.Settled.{settled}
+use Rattle.listing.specs.Settled.{idle, settled}
 use Rattle.listing.specs.Steps.{listing_of, read_of, sound_listing, listed, Outcome, outcome, opens, line_of, record_listed, pushed, step_of}
 use Rattle.listing.specs.declared.Listing.{Listing}
 use Rattle.listing.proofs.Counts.{came}
@@ -46,33 +47,33 @@ use Rattle.claims.proofs.Scanned.{refused_lines, whole_lines}
 -- what is still to be written, with l to come
 unfoldable pub future : Listing → List ℕ → List ℕ → List ℕ
 future s stage l =
-    pick (passes s.parser.error)
+    pick (passes (latched s.parser))
     (lines_from s.offset s.«open» (take (limit - s.offset) (bytes_in s.parser stage ++ l)))
-    (ending s.offset s.parser.error.number 0)
+    (ending s.offset (latched s.parser).number 0)
 
-pub future_on : (s : Listing) (stage l : List ℕ) → passes s.parser.error ≡ true
+pub future_on : (s : Listing) (stage l : List ℕ) → passes (latched s.parser) ≡ true
     → future s stage l ≡ lines_from s.offset s.«open» (take (limit - s.offset) (bytes_in s.parser stage ++ l))
 unfolding future
 future_on s stage l e =
-    ap (λ (t : Bool). pick t (lines_from s.offset s.«open» (take (limit - s.offset) (bytes_in s.parser stage ++ l))) (ending s.offset s.parser.error.number 0)) e
+    ap (λ (t : Bool). pick t (lines_from s.offset s.«open» (take (limit - s.offset) (bytes_in s.parser stage ++ l))) (ending s.offset (latched s.parser).number 0)) e
 
-pub future_off : (s : Listing) (stage l : List ℕ) → passes s.parser.error ≡ false → future s stage l ≡ ending s.offset s.parser.error.number 0
+pub future_off : (s : Listing) (stage l : List ℕ) → passes (latched s.parser) ≡ false → future s stage l ≡ ending s.offset (latched s.parser).number 0
 unfolding future
 future_off s stage l e =
-    ap (λ (t : Bool). pick t (lines_from s.offset s.«open» (take (limit - s.offset) (bytes_in s.parser stage ++ l))) (ending s.offset s.parser.error.number 0)) e
+    ap (λ (t : Bool). pick t (lines_from s.offset s.«open» (take (limit - s.offset) (bytes_in s.parser stage ++ l))) (ending s.offset (latched s.parser).number 0)) e
 
 -- a listing that calls leave, with its stage
 pub record Good (s : Listing) (stage : List ℕ) : Type 0 where
   pub sound : sound_listing s ≡ true
   pub room : 65536 ≤ length stage
-  pub ready : passes s.parser.error ≡ true → Ready s.parser (held_in s.parser stage)
+  pub ready : passes (latched s.parser) ≡ true → Ready s.parser (held_in s.parser stage)
 
 -- one push: a text is put, and what is still to be written is what was, without it
 pub record Writes (s : Listing) (stage piece output : List ℕ) (at : ℕ) (o : Outcome) : Type 0 where
   pub text : List ℕ
   pub puts : Puts output at text o.listed.written o.output
   pub good : Good o.listed.listing o.stage
-  pub clear : passes o.listed.refusal ≡ true → passes o.listed.listing.parser.error ≡ true
+  pub clear : passes o.listed.refusal ≡ true → passes (latched o.listed.listing.parser) ≡ true
   pub law : (rest : List ℕ) → text ++ future o.listed.listing o.stage (drop o.listed.taken piece ++ rest) ≡ future s stage (piece ++ rest)
 
 pub puts_none : (d : List ℕ) (at : ℕ) → at ≤ length d → Puts d at [] at d
@@ -99,15 +100,21 @@ module _ (p : RecordParser) (sound : sound_parser p ≡ true) where
       let k : p.payload_len ≡ 0 = sound_empty p true (sym sound) refl (λ q. omega arith) in
       λ i. take (e i) p.header ++ take (k i) stage
 
+  idle_number : eqb p.header_len 0 ≡ true → (latched (idle (latched p).number)).number ≡ (latched p).number
+  unfolding settled
+  idle_number z = ap (λ (t : Bool). (latched (pick t (idle (latched p).number) p)).number) (sym z) ∙ settled_number p sound
+
   future_settled : (offset o : ℕ) (stage l : List ℕ) → future (listing_of (settled p) offset o) stage l ≡ future (listing_of p offset o) stage l
   unfolding settled future
   future_settled offset o stage l =
       picked (λ (x : RecordParser). future (listing_of x offset o) stage l ≡ future (listing_of p offset o) stage l) (eqb p.header_len 0)
-      (λ z. ap (λ (x : List ℕ). pick (passes p.error) (lines_from offset o (take (limit - offset) (x ++ l))) (ending offset p.error.number 0)) (sym (none_held z stage)))
+      (λ z.
+      (λ i. pick (eqb ((idle_number z) i) 0) (lines_from offset o (take (limit - offset) l)) (ending offset ((idle_number z) i) 0))
+      ∙ ap (λ (x : List ℕ). pick (passes (latched p)) (lines_from offset o (take (limit - offset) (x ++ l))) (ending offset (latched p).number 0)) (sym (none_held z stage)))
       (λ _. refl)
 
-pub settled_passes : (p : RecordParser) → passes (settled p).error ≡ passes p.error
-settled_passes p = ap (λ (n : ℕ). eqb n 0) (settled_number p)
+  pub settled_passes : passes (latched (settled p)) ≡ passes (latched p)
+  settled_passes = ap (λ (n : ℕ). eqb n 0) (settled_number p sound)
 
 module _ (p : RecordParser) (stage : List ℕ) (r : Ready p (held_in p stage)) where
   settled_size : length (settled p).header ≡ 44
@@ -119,9 +126,9 @@ module _ (p : RecordParser) (stage : List ℕ) (r : Ready p (held_in p stage)) w
   settled_count = picked (λ (x : RecordParser). length (held_in x stage) ≡ x.payload_len) (eqb p.header_len 0) (λ _. refl) (λ _. r.count)
 
   settled_ready : Ready (settled p) (held_in (settled p) stage)
-  settled_ready = record { sound = settled_sound p r.sound; clear = settled_passes p ∙ r.clear; size = settled_size; count = settled_count }
+  settled_ready = record { sound = settled_sound p r.sound; clear = settled_passes p r.sound ∙ r.clear; size = settled_size; count = settled_count }
 
-module _ (s : Listing) (stage piece output : List ℕ) (at : ℕ) (good : Good s stage) (on : passes s.parser.error ≡ true) (few : read_of s + length piece ≤ limit)
+module _ (s : Listing) (stage piece output : List ℕ) (at : ℕ) (good : Good s stage) (on : passes (latched s.parser) ≡ true) (few : read_of s + length piece ≤ limit)
     (room : at + 126 ≤ length output) where
   placed : Placed s.parser stage
   placed = record { ready = good.ready on; room = good.room }
@@ -177,7 +184,7 @@ module _ (s : Listing) (stage piece output : List ℕ) (at : ℕ) (good : Good s
         text = [];
         puts = puts_none output at (omega arith);
         good = record { sound = w.sound; room = r.room; ready = λ _. settled_ready a.parser after r.ready };
-        clear = λ _. settled_passes a.parser ∙ t.ready.clear;
+        clear = λ _. settled_passes a.parser push_sound_lem ∙ t.ready.clear;
         law = λ rest.
             future_settled a.parser push_sound_lem s.offset s.«open» after (drop a.consumed piece ++ rest)
             ∙ future_on (listing_of a.parser s.offset s.«open») after (drop a.consumed piece ++ rest) t.ready.clear
@@ -192,15 +199,15 @@ module _ (s : Listing) (stage piece output : List ℕ) (at : ℕ) (good : Good s
   fails r v t =
       let e : step_of s piece stage output at ≡ quiet = step_is false t.complete in
       let w = sound_is quiet e in
-      let x : a.parser.error ≡ r = ap (λ (p : RecordParser). p.error) t.parser in
-      let off : passes a.parser.error ≡ false = ap (λ (y : Refusal). passes y) x ∙ t.numbered in
+      let x : latched a.parser ≡ r = ap latched t.parser ∙ t.latches in
+      let off : passes (latched a.parser) ≡ false = ap (λ (y : Refusal). passes y) x ∙ t.numbered in
       let l : length (b ++ piece) ≡ length b + length piece = length-append b piece in
       let staged = push_staged s.parser piece stage (good.ready on) good.room in
       subst (Writes s stage piece output at) (sym e)
       (record {
         text = [];
         puts = puts_none output at (omega arith);
-        good = record { sound = w.sound; room = omega (arith, staged.same_length, good.room); ready = λ q. true_not_false (sym q ∙ settled_passes a.parser ∙ off) };
+        good = record { sound = w.sound; room = omega (arith, staged.same_length, good.room); ready = λ q. true_not_false (sym q ∙ settled_passes a.parser push_sound_lem ∙ off) };
         clear = λ q. true_not_false (sym q ∙ ap (λ (y : Refusal). passes y) t.refusal ∙ t.numbered);
         law = λ rest.
             future_settled a.parser push_sound_lem s.offset s.«open» after (drop a.consumed piece ++ rest)
@@ -275,7 +282,7 @@ module _ (s : Listing) (stage piece output : List ℕ) (at : ℕ) (good : Good s
           text = line_of s a.«record» payload;
           puts = record { next = refl; within = omega arith; bytes = refl };
           good = record { sound = w.sound; room = r.room; ready = λ _. settled_ready a.parser after r.ready };
-          clear = λ _. settled_passes a.parser ∙ (completed_ready t).clear;
+          clear = λ _. settled_passes a.parser push_sound_lem ∙ (completed_ready t).clear;
           law = λ rest. next_lines rest (let f = facts next w.sound in omega (arith, f.read));
         })
 

@@ -28,8 +28,8 @@ use Rattle.guest.specs.Checks.{stale, reset_rows, data_rows}
 use Rattle.guest.specs.Receive as R
 use Rattle.guest_core.specs.declared.GuestState.{GuestState}
 use Rattle.guest_core.specs.declared.GuestState.TheVariants as State
-use Rattle.guest_core.specs.declared.asks.StateAnswer.{StateAnswer}
-use Rattle.guest.specs.declared.accept.GuestEvent.TheVariants as Event
+use Rattle.guest_core.specs.Asks.{StateAnswer}
+use Rattle.guest.specs.Event as Event
 use Rattle.guest_core.specs.declared.GuestSession.{GuestSession}
 use Rattle.claims.specs.Reading.{held_bytes, encoded}
 use Rattle.claims.specs.GuestCalls.{Call, Endpoint, Step, step, fresh}

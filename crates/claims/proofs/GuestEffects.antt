@@ -25,11 +25,11 @@ use Rattle.guest_core.specs.Calls as C
 use Rattle.guest_core.specs.Send as S
 use Rattle.guest_core.specs.Asks as A
 use Rattle.guest_core.specs.declared.GuestState.TheVariants as State
-use Rattle.guest.specs.declared.accept.GuestEvent.TheVariants as Event
+use Rattle.guest.specs.Event as Event
 use Rattle.guest_core.specs.declared.GuestSession.{GuestSession}
-use Rattle.guest.specs.declared.accept.Received.{Received}
-use Rattle.guest_core.specs.declared.control.Closed.{Closed}
-use Rattle.guest_core.specs.declared.asks.WindowAnswer.{WindowAnswer}
+use Rattle.guest.specs.Receive.{Received}
+use Rattle.guest_core.specs.Calls.{Closed}
+use Rattle.guest_core.specs.Asks.{WindowAnswer}
 use Rattle.claims.specs.Reading.{held_bytes, Ready, Staged}
 use Rattle.claims.specs.GuestCalls.{Lent, Writing, attach, acknowledge, send, credit, Call, receive, write, disconnect, ask}
 use Rattle.claims.specs.GuestCalls.{Ask, ask_state, ask_identity, ask_window, ask_outstanding, ask_needed}

@@ -22,8 +22,8 @@ use Rattle.guest_core.specs.Calls as C
 use Rattle.guest_core.specs.Send as S
 use Rattle.guest_core.specs.Asks as A
 use Rattle.guest_core.specs.declared.GuestState.TheVariants as State
-use Rattle.guest.specs.declared.accept.GuestEvent.{GuestEvent}
-use Rattle.guest.specs.declared.accept.GuestEvent.TheVariants as Event
+use Rattle.guest.specs.Event.{GuestEvent}
+use Rattle.guest.specs.Event as Event
 use Rattle.claims.specs.GuestCalls.{own, other, attach, acknowledge, credit, ask_state, ask_outstanding, Call, receive, write, ask, state, outstanding, Answer, received, sent, told, event_of, Endpoint, step, fresh}
 use Rattle.claims.specs.GuestHistory.{after, Seen, trace, history, AllOwnOrShorter, no_tally, count, no_transcript, transcribe}
 use Rattle.claims.specs.GuestClaims.{ResetRun, answers}

@@ -12,6 +12,7 @@ use Rattle.wire.specs.Bytes.{Octets}
 use Rattle.wire.specs.Refusals.{passes}
 use Rattle.outer.specs.Outer.{max_payload}
 use Rattle.wire.proofs.Rows.{and_left, and_right}
+use Rattle.parser.specs.Push.{latched}
 use Rattle.parser.specs.Push.{counts_ok, error_ok, sound_parser, held_in}
 use Rattle.parser.specs.declared.RecordParser.{RecordParser}
 use Rattle.session.specs.Checks.{holds}
@@ -60,7 +61,7 @@ pub record ParserInvariant (p : RecordParser) : Type 0 where
 
 pub record Invariant (g : GuestSession) : Type 0 where
   pub parser : ParserInvariant g.parser
-  pub clear : is_failed g.state ≡ false → passes g.parser.error ≡ true
+  pub clear : is_failed g.state ≡ false → passes (latched g.parser) ≡ true
   pub limits : Limits g
   pub idle : is_resetting g.state ≡ true → g.window ≡ 0
   pub named : is_live g.state ≡ true → holds g.identity ≡ true
@@ -86,7 +87,7 @@ unfolding sound_parser
 payload_within p e =
     go
     (part_of p.header p.header_len p.payload_len
-    (and_left (counts_ok p.header p.header_len p.payload_len) (error_ok p.error.number p.header_len) e))
+    (and_left (counts_ok p.header p.header_len p.payload_len) (error_ok (latched p).number p.header_len) e))
   where
     go : Part p.header p.header_len p.payload_len → p.payload_len ≤ max_payload
     go (in_head x y) = omega arith

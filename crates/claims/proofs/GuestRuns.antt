@@ -4,11 +4,11 @@ use Prim.Native.Nat.{ℕ}
 use mathlib.Core.Path.{◌≡◌, refl, sym, ap, ◌∙◌}
 use mathlib.Core.Bool.{false}
 use mathlib.Core.List.{List, [], ◌∷◌, ◌++◌}
-use Rattle.wire.specs.Refusals.{none}
+use Rattle.std.specs.Prelude.{None}
 use Rattle.record.specs.Record.{record_of}
 use Rattle.parser.specs.Push.{parser_of, held_in}
 use Rattle.guest_core.specs.State.{is_failed, reset_guest}
-use Rattle.guest.specs.declared.accept.GuestEvent.TheVariants as Event
+use Rattle.guest.specs.Event as Event
 use Rattle.guest_core.specs.declared.GuestSession.{GuestSession}
 use Rattle.claims.specs.GuestCalls.{own, other, Call, Answer, event_of, Endpoint, Step, step, fresh}
 use Rattle.claims.specs.GuestHistory.{after, trace, history, OwnOrShorter, AllOwnOrShorter, Transcript, no_transcript, transcribe}
@@ -24,7 +24,7 @@ use Rattle.claims.proofs.GuestStageless.{stageless, answers_stageless, all_alike
 
 -- the session after a RESET of these bytes
 abbrev pub reset_session : List ℕ → GuestSession
-reset_session h = reset_guest (parser_of h 0 0 none) (record_of h)
+reset_session h = reset_guest (parser_of h 0 0 None) (record_of h)
 
 reset_step : {l : Transcript} {e : Endpoint} {c : Call} {t : Step} → Effect e c t → OwnOrShorter c → (is_failed e.session.state ≡ false → StreamAt l e)
     → event_of t.answer ≡ Event.Reset → t.after.session ≡ reset_session (transcribe l c t.answer).reset

@@ -2,18 +2,21 @@
 -- of `invariant_step` is one thing that a call can do (`Effect`). Assumes nothing.
 use Prim.Native.Nat.{ℕ, ◌-◌, ◌≤◌, ◌<◌}
 use mathlib.Core.Path.{◌≡◌, refl, sym, ap, subst, ◌∙◌}
-use mathlib.Core.Bool.{Bool, true, false, ◌||◌}
+use mathlib.Core.Bool.{true}
 use mathlib.Core.List.{List, [], ◌∷◌}
 use native.Mathlib.Omega.{arith}
 use lib.ListN.{length, replicate}
-use lib.Dec.{leb, eqb}
-use borrow.Author.Tests.{leb-true, eqb-false, le-leb, lt-leb}
+use lib.Dec.{leb}
+use borrow.Author.Tests.{leb-true, eqb-false, lt-leb}
 use Rattle.wire.specs.Bytes.{Octets}
-use Rattle.wire.specs.Refusals.{refusal, none, first, passes}
+use Rattle.wire.specs.Refusals.{refusal, first, passes}
 use Rattle.outer.specs.Outer.{max_payload, window_ok}
 use Rattle.wire.specs.declared.Refusal.{Refusal}
 use Rattle.wire.proofs.Rows.{picked, and_right}
-use Rattle.parser.specs.Push.{parser_of, counts_ok, error_ok, sound_parser, Push, head_taken, head_with, held_in}
+use Rattle.parser.specs.Push.{latched}
+use Rattle.parser.proofs.Latches.{latch_sound}
+use Rattle.claims.proofs.ParserSound.{empty}
+use Rattle.parser.specs.Push.{Push, head_taken, head_with, held_in}
 use Rattle.parser.specs.declared.RecordParser.{RecordParser}
 use Rattle.session.specs.Checks.{holds}
 use Rattle.guest_core.specs.State.{fresh_guest, sound_guest}
@@ -32,14 +35,6 @@ use Rattle.claims.proofs.GuestEffects.{PushFacts, Effect, effect_of}
 use Rattle.claims.proofs.GuestEffects.{refuses_receive, fails, waits, resets, hands, refuses_write, attaches, acks, sends, credits, stays_ended, closes, fails_buffered, tells}
 
 -- ---- the parser that a push leaves
-or_true : (a : Bool) → a || true ≡ true
-or_true true = refl
-or_true false = refl
-
-latched_sound : (h : List ℕ) (r : Refusal) → r.number ≤ 9 → sound_parser (parser_of h 0 0 r) ≡ true
-unfolding sound_parser counts_ok error_ok
-latched_sound h r l = rw (le-leb r.number 9 l) (or_true (eqb r.number 0))
-
 module _ {g : GuestSession} (f : Invariant g) {piece : List ℕ} (o : Octets piece) where
   pub H-octets : Octets (head_with g.parser.header g.parser.header_len piece)
   unfolding head_with
@@ -49,21 +44,21 @@ module _ {g : GuestSession} (f : Invariant g) {piece : List ℕ} (o : Octets pie
   push_leaves unfinished t =
       record { sound = t.matches.ready.sound; size = t.matches.ready.size; octets = subst Octets (sym t.matches.header) H-octets }
   push_leaves (whole h y) t =
-      subst ParserInvariant (sym t.matches.parser) (record { sound = latched_sound h none (omega arith); size = t.matches.size; octets = subst Octets (sym t.matches.header) H-octets })
+      subst ParserInvariant (sym t.matches.parser) (record { sound = empty h; size = t.matches.size; octets = subst Octets (sym t.matches.header) H-octets })
   push_leaves {z} (Scans.refused r) t =
       subst ParserInvariant (sym t.matches.parser)
       (record {
-        sound = latched_sound _ r t.matches.low;
+        sound = latch_sound _ r;
         size = H-size g.parser.header g.parser.header_len g.parser.payload_len (held_in g.parser z) piece f.parser.size t.ready.count (ready_part t.ready);
         octets = H-octets;
       })
 
 -- a push that waits or completes a record latches no error
-wait_clear : {g : GuestSession} {z piece : List ℕ} {u : Push} → PushFacts g z piece u unfinished → passes u.answer.parser.error ≡ true
+wait_clear : {g : GuestSession} {z piece : List ℕ} {u : Push} → PushFacts g z piece u unfinished → passes (latched u.answer.parser) ≡ true
 wait_clear t = t.matches.ready.clear
 
-whole_clear : {g : GuestSession} {z piece h y : List ℕ} {u : Push} → PushFacts g z piece u (whole h y) → passes u.answer.parser.error ≡ true
-whole_clear t = ap (λ (p : RecordParser). passes p.error) t.matches.parser
+whole_clear : {g : GuestSession} {z piece h y : List ℕ} {u : Push} → PushFacts g z piece u (whole h y) → passes (latched u.answer.parser) ≡ true
+whole_clear t = ap (λ (p : RecordParser). passes (latched p)) t.matches.parser
 
 -- ---- one call
 window_low : (w : ℕ) → window_ok w ≡ true → w ≤ 4194314
@@ -117,7 +112,7 @@ invariant_after e (c ∷ cs) f = invariant_after (step e c).after cs (invariant_
 pub fresh_invariant : Invariant fresh_guest
 fresh_invariant =
     record {
-      parser = record { sound = latched_sound (replicate 44 0) none (omega arith); size = refl; octets = octets_zeros 44 };
+      parser = record { sound = empty (replicate 44 0); size = refl; octets = octets_zeros 44 };
       clear = λ _. refl;
       limits = omega arith;
       idle = λ _. refl;

@@ -23,7 +23,7 @@ use Rattle.guest_core.specs.Writes as W
 use Rattle.guest_core.specs.Calls as C
 use Rattle.guest_core.specs.Send as S
 use Rattle.guest_core.specs.declared.GuestSession.{GuestSession}
-use Rattle.guest_core.specs.declared.control.Closed.{Closed}
+use Rattle.guest_core.specs.Calls.{Closed}
 use Rattle.claims.specs.GuestCalls.{own, other, Writing, attach, acknowledge, send, credit, Call, receive, write, disconnect, ask}
 use Rattle.claims.specs.GuestCalls.{Answer, sent, closed, told, received_as, Endpoint, endpoint, Step, rule_of, tell, write_step, step}
 use Rattle.claims.specs.GuestHistory.{trace, OwnOrShorter, AllOwnOrShorter}

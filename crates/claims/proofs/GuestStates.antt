@@ -18,10 +18,10 @@ use Rattle.guest_core.specs.Calls as C
 use Rattle.guest_core.specs.declared.GuestState.{GuestState}
 use Rattle.guest_core.specs.declared.GuestState.TheVariants as State
 use Rattle.guest_core.specs.declared.GuestSession.{GuestSession}
-use Rattle.guest_core.specs.declared.control.Closed.{Closed}
-use Rattle.guest_core.specs.declared.asks.StateAnswer.{StateAnswer}
-use Rattle.guest_core.specs.declared.asks.IdentityAnswer.{IdentityAnswer}
-use Rattle.guest_core.specs.declared.asks.WindowAnswer.{WindowAnswer}
+use Rattle.guest_core.specs.Calls.{Closed}
+use Rattle.guest_core.specs.Asks.{StateAnswer}
+use Rattle.guest_core.specs.Asks.{IdentityAnswer}
+use Rattle.guest_core.specs.Asks.{WindowAnswer}
 use Rattle.claims.specs.GuestCalls.{Lent, own, other, Writing, Call, receive, write, disconnect, ask}
 use Rattle.claims.specs.GuestCalls.{state, identity, window, told, refusal_of, Endpoint, endpoint, stage_of, stage_left, Step, step, fresh}
 use Rattle.claims.specs.GuestHistory.{after, trace, history, no_tally}

@@ -23,7 +23,7 @@ use Rattle.guest_core.specs.Send as S
 use Rattle.guest_core.specs.declared.GuestState.{GuestState}
 use Rattle.guest_core.specs.declared.GuestState.TheVariants as State
 use Rattle.guest_core.specs.declared.GuestSession.{GuestSession}
-use Rattle.guest_core.specs.declared.control.Closed.{Closed}
+use Rattle.guest_core.specs.Calls.{Closed}
 use Rattle.claims.specs.GuestCalls.{Writing, attach, acknowledge, send, credit, Call, receive, write, disconnect, ask, Endpoint, stage_of, step, fresh, refusal_of}
 use Rattle.claims.specs.GuestHistory.{after, trace, history, no_tally}
 use Rattle.claims.specs.States.{keeps_state, after_event, after_write, guest_state, state_after}

@@ -22,6 +22,7 @@ use Rattle.record.specs.declared.types.RecordType.TheVariants as Kind
 use Rattle.std.specs.Prelude.{Some}
 use Rattle.record.specs.declared.Record.{Record}
 use Rattle.record.proofs.TypesCases.{code_type}
+use Rattle.parser.specs.Push.{latched}
 use Rattle.parser.specs.Push.{Push, push, push_rows, push_head, push_body, finish, head_taken, body_taken, push_stage, held_in, head_with, payload_at, buffered_of}
 use Rattle.parser.specs.declared.Place.{Place}
 use Rattle.parser.specs.declared.Place.TheVariants.{Piece}
@@ -37,10 +38,10 @@ use Rattle.host.specs.Calls as Calls
 use Rattle.host.specs.Asks as Asks
 use Rattle.host.specs.declared.HostState.{HostState}
 use Rattle.host.specs.declared.HostSession.{HostSession}
-use Rattle.host.specs.declared.calls.Closed.{Closed}
-use Rattle.host.specs.declared.accept.HostEvent.{HostEvent}
-use Rattle.host.specs.declared.accept.HostEvent.TheVariants as Event
-use Rattle.host.specs.declared.asks.StateAnswer.{StateAnswer}
+use Rattle.host.specs.Calls.{Closed}
+use Rattle.host.specs.Event.{HostEvent}
+use Rattle.host.specs.Event as Event
+use Rattle.host.specs.Asks.{StateAnswer}
 use Rattle.claims.specs.Reading.{Ready, encoded, encodings}
 use Rattle.claims.specs.Sent.{Encodable, AllEncodable, none_left, one_more}
 use Rattle.claims.specs.HostCalls.{HostCall, attach, receive, receive_short, send, disconnect, ask_state, ask_identity, ask_needed, got, HostPlace, step, next, fresh_place, after, host_history}
@@ -319,13 +320,13 @@ waiting s room cs w q opened told piece part f c =
 -- ---- pieces
 -- no error is latched in the first three states, whatever the stage
 abbrev Clear : HostSession → Type 0
-Clear h = is_begun h.state ≡ true → passes h.parser.error ≡ true
+Clear h = is_begun h.state ≡ true → passes (latched h.parser) ≡ true
 
 -- a push that is not refused latches none
-push_clear : (p : RecordParser) (size : ℕ) (held piece : List ℕ) → passes (push p size held piece).answer.refusal ≡ true → passes (push p size held piece).answer.parser.error ≡ true
+push_clear : (p : RecordParser) (size : ℕ) (held piece : List ℕ) → passes (push p size held piece).answer.refusal ≡ true → passes (latched (push p size held piece).answer.parser) ≡ true
 unfolding push push_head push_body finish
 push_clear p size held piece =
-    let P : Push → Type 0 = λ (u : Push). passes u.answer.refusal ≡ true → passes u.answer.parser.error ≡ true in
+    let P : Push → Type 0 = λ (u : Push). passes u.answer.refusal ≡ true → passes (latched u.answer.parser) ≡ true in
     let n : ℕ = head_taken p.header_len piece in
     let d : List ℕ = head_with p.header p.header_len piece in
     let m : ℕ = body_taken d p.payload_len (drop n piece) in
@@ -341,7 +342,7 @@ push_clear p size held piece =
 abbrev ClearAfter : Receive → Type 0
 ClearAfter r = Clear r.answer.session
 
-effect_clear : (h : HostSession) (u : Push) → passes u.answer.parser.error ≡ true → (t : RecordType) → ClearAfter (effect t h u)
+effect_clear : (h : HostSession) (u : Push) → passes (latched u.answer.parser) ≡ true → (t : RecordType) → ClearAfter (effect t h u)
 unfolding effect
 effect_clear h u c Kind.GuestAttach x = c
 effect_clear h u c Kind.HostAttach x = c

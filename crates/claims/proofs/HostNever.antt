@@ -18,6 +18,7 @@ use Rattle.record.specs.Record.{header_checks, payload_checks}
 use Rattle.record.specs.declared.types.RecordType.{RecordType}
 use Rattle.record.specs.declared.types.RecordType.TheVariants as Kind
 use Rattle.record.specs.declared.Record.{Record}
+use Rattle.parser.specs.Push.{latched}
 use Rattle.parser.specs.Push.{counts_ok, error_ok, sound_parser, Push, finish, body_taken, push_body, head_taken, head_with, push_head, push_rows, push, held_in, buffered_of}
 use Rattle.parser.specs.declared.RecordParser.{RecordParser}
 use Rattle.parser.specs.declared.Place.{Place}
@@ -28,9 +29,9 @@ use Rattle.host.specs.Receive as Receive
 use Rattle.host.specs.Asks as Asks
 use Rattle.host.specs.Calls as Calls
 use Rattle.host.specs.declared.HostSession.{HostSession}
-use Rattle.host.specs.declared.calls.Closed.{Closed}
+use Rattle.host.specs.Calls.{Closed}
 use Rattle.claims.specs.HostCalls.{HostCall, attach, receive, receive_short, send, disconnect, ask_state, ask_identity, ask_needed, refusal_of, step, reply, after, fresh_place}
-use Rattle.claims.proofs.ParserSound.{header_low, payload_low}
+use Rattle.parser.proofs.Latches.{header_low, payload_low}
 use Rattle.claims.proofs.HostSound.{fit_reached, always_sound}
 
 -- a refusal other than 23, and rows of such
@@ -86,11 +87,11 @@ latched_low number n = go (eqb number 0) refl
 push_not : (p : RecordParser) (size : ℕ) (held piece : List ℕ) → sound_parser p ≡ true → NotPush (push p size held piece)
 unfolding push sound_parser
 push_not p size held piece s =
-    let l : p.error.number ≤ 9 =
-    latched_low p.error.number p.header_len (and_right (counts_ok p.header p.header_len p.payload_len) (error_ok p.error.number p.header_len) s)
+    let l : (latched p).number ≤ 9 =
+    latched_low (latched p).number p.header_len (and_right (counts_ok p.header p.header_len p.payload_len) (error_ok (latched p).number p.header_len) s)
     in
     picked NotPush (passes (first (push_rows p size))) (λ _. head_not p.header p.header_len p.payload_len held piece)
-    (λ _. held_first (sound_parser p) _ _ s (refl, (low_not p.error l, tt)))
+    (λ _. held_first (sound_parser p) _ _ s (refl, (low_not (latched p) l, tt)))
 
 -- ---- a receive
 abbrev NotReceive : Receive.Receive → Type 0

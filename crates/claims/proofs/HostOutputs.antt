@@ -9,6 +9,8 @@ use native.Mathlib.Omega.{arith}
 use lib.ListN.{length, take, drop, replicate, length-take}
 use lib.Dec.{eqb, ltb}
 use borrow.Author.Tests.{leb-true}
+use Rattle.std.specs.Prelude.{Option, None}
+use Rattle.wire.specs.declared.errors.RecordError.{RecordError}
 use Rattle.wire.specs.Bytes.{overlay}
 use Rattle.session.specs.Checks.{held}
 use Rattle.wire.specs.Refusals.{first, passes, none}
@@ -16,6 +18,7 @@ use Rattle.wire.specs.declared.Refusal.{Refusal}
 use Rattle.wire.proofs.Rows.{picked, passed}
 use Rattle.record.specs.declared.types.RecordType.{RecordType}
 use Rattle.record.specs.declared.types.RecordType.TheVariants as Kind
+use Rattle.parser.specs.Push.{latch}
 use Rattle.parser.specs.Push.{Push, push, held_in, head_with, payload_at, buffered_of, parser_of, finish, body_taken, push_body, head_taken, push_head, push_rows}
 use Rattle.session.specs.declared.Identity.{Identity}
 use Rattle.host.specs.State.{is_begun, sound_host}
@@ -24,9 +27,9 @@ use Rattle.host.specs.Receive.{Receive, effect, accept, after_push, receive_rows
 use Rattle.host.specs.Receive as R
 use Rattle.host.specs.Calls as Calls
 use Rattle.host.specs.declared.HostSession.{HostSession}
-use Rattle.host.specs.declared.calls.Closed.{Closed}
-use Rattle.host.specs.declared.accept.HostEvent.{HostEvent}
-use Rattle.host.specs.declared.accept.HostEvent.TheVariants as Event
+use Rattle.host.specs.Calls.{Closed}
+use Rattle.host.specs.Event.{HostEvent}
+use Rattle.host.specs.Event as Event
 use Rattle.parser.specs.declared.Place.TheVariants.{Piece}
 use Rattle.claims.specs.HostCalls.{HostCall, attach, receive, receive_short, send, disconnect, ask_state, ask_identity, ask_needed, got, HostPlace, sending, step, next, fresh_place, after}
 use Rattle.claims.specs.HostStream.{HostOnlyDataHands, HostLeaves, HostOutputsKept, HostStreamClaims}
@@ -106,11 +109,11 @@ record PushSized (u : Push) : Type 0 where
   instance : u.answer.complete ≡ true → length u.answer.«record».instance_id ≡ 16
 
 module _ (h : List ℕ) (size : length h ≡ 44) where
-  waiting_sized : (n k : ℕ) → n ≤ 44 → Sized (parser_of h n k none)
+  waiting_sized : (n k : ℕ) → n ≤ 44 → Sized (parser_of h n k None)
   waiting_sized n k l = record { header = size; count = l }
 
-  latched_sized : (r : Refusal) → Sized (parser_of h 0 0 r)
-  latched_sized r = record { header = size; count = omega arith }
+  latched_sized : (e : Option RecordError) → Sized (parser_of h 0 0 e)
+  latched_sized e = record { header = size; count = omega arith }
 
   instance_length : length (record_of h).instance_id ≡ 16
   unfolding record_with instance_of
@@ -120,8 +123,8 @@ module _ (h : List ℕ) (size : length h ≡ 44) where
   unfolding finish
   finish_sized payload taken place =
       picked PushSized (passes (payload_checks (type_of h) payload))
-      (λ _. record { parser = latched_sized none; instance = λ _. instance_length })
-      (λ _. record { parser = latched_sized (payload_checks (type_of h) payload); instance = λ x. true_not_false (sym x) })
+      (λ _. record { parser = latched_sized None; instance = λ _. instance_length })
+      (λ _. record { parser = latched_sized (latch (payload_checks (type_of h) payload)); instance = λ x. true_not_false (sym x) })
 
   body_sized : (k : ℕ) (held rest : List ℕ) (from : ℕ) → PushSized (push_body h k held rest from)
   unfolding push_body
@@ -140,7 +143,7 @@ push_sized p size held piece s =
     picked PushSized (passes (first (push_rows p size)))
     (λ _. picked PushSized (ltb (p.header_len + n) 44)
     (λ k. record { parser = waiting_sized h l _ 0 (omega (arith, s.count)); instance = λ x. true_not_false (sym x) })
-    (λ _. picked PushSized (passes (header_checks h)) (λ _. body_sized h l _ _ _ _) (λ _. record { parser = latched_sized h l (header_checks h); instance = λ x. true_not_false (sym x) })))
+    (λ _. picked PushSized (passes (header_checks h)) (λ _. body_sized h l _ _ _ _) (λ _. record { parser = latched_sized h l (latch (header_checks h)); instance = λ x. true_not_false (sym x) })))
     (λ _. record { parser = s; instance = λ x. true_not_false (sym x) })
 
 pub record SizedHost (h : HostSession) : Type 0 where

@@ -19,7 +19,7 @@ use Rattle.host.specs.Calls as Calls
 use Rattle.host.specs.declared.HostState.{HostState}
 use Rattle.host.specs.declared.HostState.TheVariants as State
 use Rattle.host.specs.declared.HostSession.{HostSession}
-use Rattle.host.specs.declared.calls.Closed.{Closed}
+use Rattle.host.specs.Calls.{Closed}
 use Rattle.claims.specs.Reading.{Ready}
 use Rattle.claims.specs.HostCalls.{HostCall, wrote, got, HostReply, HostStep, placed, sending, receiving, step, fresh_place, compared, seen, replies}
 use Rattle.claims.specs.HostCalls.{HostLike, attaches, receives, shorts, sends, disconnects, asks_state, asks_identity, asks_needed, HostLikes, nothing, also}

@@ -20,7 +20,7 @@ use Rattle.host.specs.Checks.{allowed, type_rows, record_rows}
 use Rattle.host.specs.Receive.{Receive, effect, accept, after_push, receive_rows, receive, receive_of}
 use Rattle.host.specs.Calls as Calls
 use Rattle.host.specs.declared.HostSession.{HostSession}
-use Rattle.host.specs.declared.calls.Closed.{Closed}
+use Rattle.host.specs.Calls.{Closed}
 use Rattle.claims.specs.HostCalls.{HostCall, attach, receive_short, send, disconnect, ask_state, ask_identity, ask_needed, HostPlace, step, next, after, fresh_place}
 use Rattle.claims.specs.HostCalls as Call
 use Rattle.claims.proofs.Outcomes.{true_not_false}

@@ -22,7 +22,7 @@ use Rattle.host.specs.Asks as Asks
 use Rattle.host.specs.Calls as Calls
 use Rattle.host.specs.declared.HostState.{HostState}
 use Rattle.host.specs.declared.HostSession.{HostSession}
-use Rattle.host.specs.declared.calls.Closed.{Closed}
+use Rattle.host.specs.Calls.{Closed}
 use Rattle.claims.specs.HostCalls.{HostCall, attach, receive, receive_short, send, disconnect, ask_state, ask_identity, ask_needed}
 use Rattle.claims.specs.HostCalls.{told_state, told_identity, HostPlace, placed, step, reply, next, host_history, fresh_place, after}
 use Rattle.claims.specs.States.{keeps_state, host_named_by, host_identity_after, host_replies, HostStateTold, HostIdentityTold}

@@ -27,7 +27,7 @@ use Rattle.host.specs.Calls as C
 use Rattle.host.specs.declared.HostState.{HostState}
 use Rattle.host.specs.declared.HostState.TheVariants as State
 use Rattle.host.specs.declared.HostSession.{HostSession}
-use Rattle.host.specs.declared.calls.Closed.{Closed}
+use Rattle.host.specs.Calls.{Closed}
 use Rattle.claims.specs.HostCalls.{HostCall, attach, receive, receive_short, send, disconnect, ask_state, ask_identity, ask_needed, refusal_of, HostPlace, step, reply, next, fresh_place, after, host_history}
 use Rattle.claims.specs.States.{keeps_state, after_host_event, host_state, host_state_after}
 use Rattle.claims.specs.Stopped.{receive_stops, StoppedBy, disconnect_stops, host_held_since, host_count_held, host_held_after, host_attach_stops, host_send_stops}

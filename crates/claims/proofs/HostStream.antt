@@ -29,8 +29,8 @@ use Rattle.host.specs.Calls as Calls
 use Rattle.host.specs.declared.HostState.{HostState}
 use Rattle.host.specs.declared.HostState.TheVariants as State
 use Rattle.host.specs.declared.HostSession.{HostSession}
-use Rattle.host.specs.declared.calls.Closed.{Closed}
-use Rattle.host.specs.declared.accept.HostEvent.TheVariants as Event
+use Rattle.host.specs.Calls.{Closed}
+use Rattle.host.specs.Event as Event
 use Rattle.claims.specs.Reading.{held_bytes}
 use Rattle.claims.specs.HostCalls.{HostCall, attach, receive, receive_short, send, disconnect, ask_state, ask_identity, ask_needed, HostPlace, step, next, fresh_place, host_history}
 use Rattle.claims.specs.HostStream.{HostReport, wait_event, attached_event, rejected_event, data_event, reset_event, host_reported, HostLog, no_host_log, host_log}

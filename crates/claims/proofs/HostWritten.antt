@@ -20,7 +20,7 @@ use Rattle.host.specs.Checks.{record_rows}
 use Rattle.host.specs.Receive as R
 use Rattle.host.specs.Calls as C
 use Rattle.host.specs.declared.HostSession.{HostSession}
-use Rattle.host.specs.declared.calls.Closed.{Closed}
+use Rattle.host.specs.Calls.{Closed}
 use Rattle.claims.specs.HostCalls.{HostCall, attach, receive, receive_short, send, disconnect, ask_state, ask_identity, ask_needed, HostPlace, sending, step, next, fresh_place, after, host_history}
 use Rattle.claims.specs.Written.{Writes, host_answered, HostFigures, no_host_figures, attached_by, host_count, figures_of, HostAttachWrites, HostSendWrites}
 use Rattle.claims.proofs.Outcomes.{true_not_false}

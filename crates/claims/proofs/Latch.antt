@@ -11,9 +11,10 @@ use Rattle.wire.specs.Refusals.{pick, refusal, none, first, passes}
 use Rattle.wire.specs.Header.{length_of}
 use Rattle.wire.specs.declared.Refusal.{Refusal}
 use Rattle.wire.proofs.Rows.{and_left, and_right}
+use Rattle.parser.specs.Push.{latched}
 use Rattle.parser.specs.Push.{counts_ok, error_ok, sound_parser, Push, stopped, head_with, push_head, push_rows, push, needed_of}
 use Rattle.parser.specs.declared.RecordParser.{RecordParser}
-use Rattle.parser.specs.declared.Pushed.{Pushed}
+use Rattle.parser.specs.Push.{Pushed}
 use Rattle.claims.specs.Reading.{held_bytes, Ready, Again, PushKeepsSound}
 use Rattle.claims.proofs.Scans.{Scan, unfinished, whole, refused, scan}
 use Rattle.claims.proofs.Outcomes.{true_not_false, Part, in_head, in_body, part_of, Matches}
@@ -33,19 +34,19 @@ module _ (p : RecordParser) (size : ℕ) (held piece : List ℕ) where
       (record { answer = stopped p (first (push_rows p size)); held = held; payload = [] })).answer) e
 
   -- ---- a latched error
-  module _ (sound : sound_parser p ≡ true) (latched : passes p.error ≡ false) (room : 65536 ≤ size) where
-    first_error : first (push_rows p size) ≡ p.error
+  module _ (sound : sound_parser p ≡ true) (refusing : passes (latched p) ≡ false) (room : 65536 ≤ size) where
+    first_error : first (push_rows p size) ≡ (latched p)
     unfolding first
     first_error =
-        λ j. pick (sound j) (pick (le-leb 65536 size room j) (pick (latched j) none p.error) (refusal 21 0 0 0)) (refusal 23 0 0 0)
+        λ j. pick (sound j) (pick (le-leb 65536 size room j) (pick (refusing j) none (latched p)) (refusal 21 0 0 0)) (refusal 23 0 0 0)
 
     no_header : p.header_len ≡ 0
     unfolding sound_parser error_ok
     no_header =
         eqb-true p.header_len 0
-        (and_right (leb p.error.number 9) (eqb p.header_len 0)
-        (or_right (eqb p.error.number 0) (leb p.error.number 9 && eqb p.header_len 0) latched
-        (and_right (counts_ok p.header p.header_len p.payload_len) (error_ok p.error.number p.header_len) sound)))
+        (and_right (leb (latched p).number 9) (eqb p.header_len 0)
+        (or_right (eqb (latched p).number 0) (leb (latched p).number 9 && eqb p.header_len 0) refusing
+        (and_right (counts_ok p.header p.header_len p.payload_len) (error_ok (latched p).number p.header_len) sound)))
 
     no_payload : Part p.header p.header_len p.payload_len → p.payload_len ≡ 0
     no_payload (in_head x y) = y
@@ -55,7 +56,7 @@ module _ (p : RecordParser) (size : ℕ) (held piece : List ℕ) where
     unfolding sound_parser
     counts =
         part_of p.header p.header_len p.payload_len
-        (and_left (counts_ok p.header p.header_len p.payload_len) (error_ok p.error.number p.header_len) sound)
+        (and_left (counts_ok p.header p.header_len p.payload_len) (error_ok (latched p).number p.header_len) sound)
 
     needs_all : needed_of p ≡ 44
     unfolding needed_of
@@ -66,7 +67,7 @@ module _ (p : RecordParser) (size : ℕ) (held piece : List ℕ) where
     pub again : Again p (push p size held piece)
     again =
         record {
-          answer = push_stops (ap (λ (r : Refusal). passes r) first_error ∙ latched) ∙ ap (stopped p) first_error;
+          answer = push_stops (ap (λ (r : Refusal). passes r) first_error ∙ refusing) ∙ ap (stopped p) first_error;
           needed = needs_all;
           buffered = ap₂ (λ (a b : ℕ). a + b) no_header (no_payload counts);
         }
@@ -91,7 +92,7 @@ sound p size held piece s l c = go (passes (first (push_rows p size))) refl
   where
     go : (t : Bool) → passes (first (push_rows p size)) ≡ t → sound_parser (push p size held piece).answer.parser ≡ true
     go true e =
-        let q = rows_tell (sound_parser p) (leb 65536 size) (passes p.error) p.error refl s e in
+        let q = rows_tell (sound_parser p) (leb 65536 size) (passes (latched p)) (latched p) refl s e in
         let r : Ready p held = record { sound = s; clear = q.1; size = l; count = c } in
         sound_as (held_bytes p held) piece (head_with p.header p.header_len piece) (push p size held piece) (scan (held_bytes p held ++ piece))
         (push_matches p size held piece r (leb-true 65536 size q.0))

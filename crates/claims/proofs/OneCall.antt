@@ -8,16 +8,18 @@ use native.Mathlib.Omega.{arith}
 use lib.ListN.{length, take, drop, length-append, length-take}
 use lib.Seq.{take_all, drop-length}
 use borrow.Author.Tests.{le-leb}
+use Rattle.std.specs.Prelude.{None}
 use Rattle.wire.specs.Refusals.{pick, none, first, passes}
 use Rattle.wire.specs.declared.Refusal.{Refusal}
 use Rattle.wire.proofs.Rows.{pass_all}
 use Rattle.record.specs.Types.{code_of}
 use Rattle.record.specs.Record.{record_of}
 use Rattle.record.specs.declared.Record.{Record}
+use Rattle.parser.specs.Push.{latched}
 use Rattle.parser.specs.Push as parser
 use Rattle.parser.specs.Push.{parser_of, Push, waiting, push, head_with, push_stage, held_in, buffered_of}
 use Rattle.parser.specs.declared.RecordParser.{RecordParser}
-use Rattle.parser.specs.declared.Pushed.{Pushed}
+use Rattle.parser.specs.Push.{Pushed}
 use Rattle.claims.proofs.Scans.{Scan, whole, refused, scan}
 use Rattle.claims.proofs.Outcomes.{Completed, Refused, Matches}
 use Rattle.claims.proofs.Feeds.{Placed, bytes_in, matches}
@@ -52,8 +54,8 @@ pub record At (s : Listing) (stage : List ℕ) : Type 0 where
   pub parser : s.parser ≡ parser.fresh
 
 module _ {s : Listing} {stage : List ℕ} (e : At s stage) where
-  clear : passes s.parser.error ≡ true
-  clear = ap (λ (p : RecordParser). passes p.error) e.parser
+  clear : passes (latched s.parser) ≡ true
+  clear = ap (λ (p : RecordParser). passes (latched p)) e.parser
 
   empty : bytes_in s.parser stage ≡ []
   empty = ap (λ (p : RecordParser). bytes_in p stage) e.parser
@@ -132,7 +134,7 @@ module _ (s : Listing) (stage piece output : List ℕ) (e : At s stage) (few : s
 
   pub took : (h y : List ℕ) (r : Record) → scan piece ≡ whole h y → length piece ≡ 44 + length y → record_of h ≡ r
       → Took (list_of s piece stage output) r.length (open_after s.«open» (code_of r.record_type) r.length y)
-  unfolding record_listed settled
+  unfolding record_listed settled parser.latch
   took h y r q l w =
       let t : Completed b piece H u h y = told (whole h y) q in
       let f : a.«record» ≡ r = t.fields ∙ w in
@@ -162,7 +164,7 @@ module _ (s : Listing) (stage piece output : List ℕ) (e : At s stage) (few : s
 
   -- the first part of a record: the push waits for more
   pub waits : (h : List ℕ) (n k : ℕ) → (push parser.fresh (length stage) (held_in parser.fresh stage) piece).answer ≡ waiting h n k (length piece)
-      → (drop (list_of s piece stage output).listed.taken piece ≡ []) × ((list_of s piece stage output).listed.listing ≡ listing_of (settled (parser_of h n k none)) s.offset s.«open»)
+      → (drop (list_of s piece stage output).listed.taken piece ≡ []) × ((list_of s piece stage output).listed.listing ≡ listing_of (settled (parser_of h n k None)) s.offset s.«open»)
   waits h n k q =
       let w : a ≡ waiting h n k (length piece) = ap (λ (p : RecordParser). (push p (length stage) (held_in p stage) piece).answer) e.parser ∙ q in
       let m = step_is s stage piece output 0 e.good (clear e) few_read room false (ap (λ (x : Pushed). x.complete) w) in
@@ -186,3 +188,4 @@ module _ (s : Listing) (stage piece output : List ℕ) (e : At s stage) (few : s
       in
       ap (λ (x : Outcome). x.listed.listing) (c ∙ ap (λ (x : Outcome). after_one x.listed.refusal x) m)
       ∙ ap (λ (x : RecordParser). listing_of (settled x) s.offset s.«open») t.parser
+      ∙ ap (λ (x : Refusal). listing_of (idle x.number) s.offset s.«open») t.latches

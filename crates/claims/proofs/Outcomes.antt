@@ -9,11 +9,13 @@ use lib.ListN.{length, take, length-append, length-take}
 use lib.Seq.{take_all}
 use lib.Dec.{ltb, eqb}
 use borrow.Author.Tests.{ltb-true, eqb-true, lt-ltb, eq-eqb, ne_eqb}
+use Rattle.std.specs.Prelude.{None}
 use Rattle.wire.specs.Refusals.{pick, none, passes}
 use Rattle.wire.specs.Header.{type_of, length_of}
 use Rattle.wire.specs.declared.Refusal.{Refusal}
 use Rattle.wire.proofs.Rows.{picked, and_left, and_right}
 use Rattle.record.specs.Record.{header_checks, payload_checks, record_of}
+use Rattle.parser.specs.Push.{latched, latch}
 use Rattle.parser.specs.Push.{parser_of, counts_ok, error_ok, sound_parser, Push}
 use Rattle.parser.specs.declared.RecordParser.{RecordParser}
 use Rattle.claims.specs.Reading.{held_bytes, Ready}
@@ -44,7 +46,7 @@ part_of h hl k =
     (λ q e. in_body (eqb-true hl 44 q) (and_left (passes (header_checks h)) (ltb k (length_of h)) e) (ltb-true k (length_of h) (and_right (passes (header_checks h)) (ltb k (length_of h)) e)))
     (λ q e. in_head (ltb-true hl 44 (and_left (ltb hl 44) (eqb k 0) e)) (eqb-true k 0 (and_right (ltb hl 44) (eqb k 0) e)))
 
-pub part_sound : {h : List ℕ} {hl k : ℕ} → Part h hl k → sound_parser (parser_of h hl k none) ≡ true
+pub part_sound : {h : List ℕ} {hl k : ℕ} → Part h hl k → sound_parser (parser_of h hl k None) ≡ true
 unfolding sound_parser counts_ok error_ok
 part_sound {h} {hl} {k} (in_head x y) = simp (ne_eqb hl 44 (λ e. omega arith), lt-ltb hl 44 x, eq-eqb k 0 y)
 part_sound {h} {hl} {k} (in_body e c l) = simp (eq-eqb hl 44 e, c, lt-ltb k (length_of h) l)
@@ -53,13 +55,13 @@ pub ready_part : {p : RecordParser} {held : List ℕ} → Ready p held → Part 
 unfolding sound_parser
 ready_part {p} r =
     part_of p.header p.header_len p.payload_len
-    (and_left (counts_ok p.header p.header_len p.payload_len) (error_ok p.error.number p.header_len) r.sound)
+    (and_left (counts_ok p.header p.header_len p.payload_len) (error_ok (latched p).number p.header_len) r.sound)
 
 pub part_low : {h : List ℕ} {hl k : ℕ} → Part h hl k → hl ≤ 44
 part_low (in_head x y) = omega arith
 part_low (in_body x c y) = omega arith
 
-pub part_ready : {h : List ℕ} {hl k : ℕ} (held : List ℕ) → Part h hl k → length h ≡ 44 → length held ≡ k → Ready (parser_of h hl k none) held
+pub part_ready : {h : List ℕ} {hl k : ℕ} (held : List ℕ) → Part h hl k → length h ≡ 44 → length held ≡ k → Ready (parser_of h hl k None) held
 part_ready held x size count = record { sound = part_sound x; clear = refl; size = size; count = count }
 
 -- what such a parser holds is part of a record
@@ -91,7 +93,7 @@ pub record Completed (b piece H : List ℕ) (u : Push) (h y : List ℕ) : Type 0
   pub complete : u.answer.complete ≡ true
   pub fields : u.answer.«record» ≡ record_of h
   pub payload : u.payload ≡ y
-  pub parser : u.answer.parser ≡ parser_of h 0 0 none
+  pub parser : u.answer.parser ≡ parser_of h 0 0 None
   pub held : u.held ≡ []
   pub header : h ≡ H
   pub size : length h ≡ 44
@@ -108,7 +110,8 @@ pub record Refused (H : List ℕ) (u : Push) (r : Refusal) : Type 0 where
   pub numbered : passes r ≡ false
   pub low : r.number ≤ 9
   pub taken : u.answer.consumed ≡ 0
-  pub parser : u.answer.parser ≡ parser_of H 0 0 r
+  pub parser : u.answer.parser ≡ parser_of H 0 0 (latch r)
+  pub latches : latched (parser_of H 0 0 (latch r)) ≡ r
   pub held : u.held ≡ []
 
 abbrev pub Matches : List ℕ → List ℕ → List ℕ → Push → Scan → Type 0

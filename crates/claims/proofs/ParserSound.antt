@@ -1,68 +1,43 @@
 -- A push leaves a sound parser sound, whatever stage it is lent. What it latches comes from the header checks or the payload checks, whose
 -- numbers are 1 to 9 (`low_first`). Assumes nothing.
-use Prim.Native.Nat.{ℕ, ◌+◌, ◌≤◌, ◌<◌}
+use Prim.Native.Nat.{ℕ, ◌+◌, ◌<◌}
 use mathlib.Core.Path.{◌≡◌, refl}
-use mathlib.Core.Bool.{Bool, true, false, ◌||◌}
-use mathlib.Core.List.{List, [], ◌∷◌}
+use mathlib.Core.Bool.{true}
+use mathlib.Core.List.{List}
 use native.Mathlib.Omega.{arith}
 use lib.ListN.{drop}
-use lib.Dec.{ltb, eqb, lit≤}
-use borrow.Author.Tests.{ltb-true, le-leb, lt-ltb, ne_eqb}
-use Rattle.wire.specs.Refusals.{none, first, passes}
+use lib.Dec.{ltb}
+use borrow.Author.Tests.{ltb-true, lt-ltb, ne_eqb}
+use Rattle.std.specs.Prelude.{None}
+use Rattle.wire.specs.Refusals.{first, passes}
 use Rattle.wire.specs.Header.{type_of, length_of}
-use Rattle.wire.specs.declared.Refusal.{Refusal}
 use Rattle.wire.proofs.Rows.{picked}
-use Rattle.record.specs.Record.{header_checks, header_rows, payload_checks, payload_rows}
+use Rattle.record.specs.Record.{header_checks, payload_checks}
+use Rattle.parser.proofs.Latches.{latch_sound}
 use Rattle.parser.specs.Push.{parser_of, counts_ok, error_ok, sound_parser, Push, finish, body_taken, push_body, head_taken, head_with, push_head, push_rows, push}
 use Rattle.parser.specs.declared.RecordParser.{RecordParser}
 use Rattle.parser.specs.declared.Place.{Place}
 
--- every row refuses with a number up to 9
-abbrev Low : List (Bool × Refusal) → Type 0
-Low [] = Unit {0}
-Low (row ∷ rows) = (row.1.number ≤ 9) × Low rows
-
-low_first : (rows : List (Bool × Refusal)) → Low rows → (first rows).number ≤ 9
-unfolding first
-low_first [] l = lit≤ tt
-low_first (row ∷ rows) l = picked (λ (r : Refusal). r.number ≤ 9) row.0 (λ _. low_first rows l.1) (λ _. l.0)
-
-pub header_low : (h : List ℕ) → (header_checks h).number ≤ 9
-unfolding header_checks
-header_low h = low_first (header_rows h) (lit≤ tt, (lit≤ tt, (lit≤ tt, (lit≤ tt, (lit≤ tt, (lit≤ tt, tt))))))
-
-pub payload_low : (t : ℕ) (payload : List ℕ) → (payload_checks t payload).number ≤ 9
-unfolding payload_checks
-payload_low t payload = low_first (payload_rows t payload) (lit≤ tt, (lit≤ tt, (lit≤ tt, tt)))
-
 abbrev Sound : Push → Type 0
 Sound u = sound_parser u.answer.parser ≡ true
 
-or_true : (a : Bool) → a || true ≡ true
-or_true true = refl
-or_true false = refl
-
 module _ (h : List ℕ) where
-  latched : (r : Refusal) → r.number ≤ 9 → sound_parser (parser_of h 0 0 r) ≡ true
-  unfolding sound_parser counts_ok error_ok
-  latched r l = rw (le-leb r.number 9 l) (or_true (eqb r.number 0))
-
-  empty : sound_parser (parser_of h 0 0 none) ≡ true
+  pub empty : sound_parser (parser_of h 0 0 None) ≡ true
   unfolding sound_parser counts_ok error_ok
   empty = refl
 
-  filling : (n : ℕ) → n < 44 → sound_parser (parser_of h n 0 none) ≡ true
+  filling : (n : ℕ) → n < 44 → sound_parser (parser_of h n 0 None) ≡ true
   unfolding sound_parser counts_ok error_ok
   filling n l = simp (ne_eqb n 44 (λ q. omega arith), lt-ltb n 44 l)
 
-  holding : (k : ℕ) → passes (header_checks h) ≡ true → k < length_of h → sound_parser (parser_of h 44 k none) ≡ true
+  holding : (k : ℕ) → passes (header_checks h) ≡ true → k < length_of h → sound_parser (parser_of h 44 k None) ≡ true
   unfolding sound_parser counts_ok error_ok
   holding k c l = simp (c, lt-ltb k (length_of h) l)
 
   finish_sound : (payload : List ℕ) (taken : ℕ) (place : Place) → Sound (finish h payload taken place)
   unfolding finish
   finish_sound payload taken place =
-      picked Sound (passes (payload_checks (type_of h) payload)) (λ _. empty) (λ _. latched (payload_checks (type_of h) payload) (payload_low (type_of h) payload))
+      picked Sound (passes (payload_checks (type_of h) payload)) (λ _. empty) (λ _. latch_sound h (payload_checks (type_of h) payload))
 
   body_sound : (k : ℕ) (held rest : List ℕ) (from : ℕ) → passes (header_checks h) ≡ true → Sound (push_body h k held rest from)
   unfolding push_body
@@ -77,7 +52,7 @@ head_sound header header_len k held piece =
     let h : List ℕ = head_with header header_len piece in
     picked Sound (ltb (header_len + head_taken header_len piece) 44)
     (λ l. filling h (header_len + head_taken header_len piece) (ltb-true _ _ l))
-    (λ _. picked Sound (passes (header_checks h)) (λ c. body_sound h k held (drop (head_taken header_len piece) piece) (head_taken header_len piece) c) (λ _. latched h (header_checks h) (header_low h)))
+    (λ _. picked Sound (passes (header_checks h)) (λ c. body_sound h k held (drop (head_taken header_len piece) piece) (head_taken header_len piece) c) (λ _. latch_sound h (header_checks h)))
 
 pub push_sound_lem : (p : RecordParser) (size : ℕ) (held piece : List ℕ) → sound_parser p ≡ true → Sound (push p size held piece)
 unfolding push

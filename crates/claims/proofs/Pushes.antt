@@ -22,7 +22,7 @@ use Rattle.parser.specs.declared.Place.{Place}
 use Rattle.parser.specs.declared.Place.TheVariants.{Piece, Stage}
 use Rattle.claims.specs.Reading.{held_bytes, Ready}
 use Rattle.claims.proofs.Scans.{scan, scan_value, scan_body, scan_header, scan_short, scan_cut}
-use Rattle.claims.proofs.Records.{header_low, payload_low}
+use Rattle.parser.proofs.Latches.{header_low, header_latches, payload_low, payload_latches}
 use Rattle.claims.proofs.Outcomes.{picked₂, nil, Part, in_head, in_body, part_low, ready_part, part_ready, Pending, Matches}
 
 regroup : (a b t d h : List ℕ) → b ++ t ≡ t ++ b → h ≡ a ++ t → (a ++ b) ++ (t ++ d) ≡ h ++ (b ++ d)
@@ -158,7 +158,7 @@ module _ (head : List ℕ) (hl k : ℕ) (held piece : List ℕ) (size : length h
           some = some_taken (omega arith);
           within = piece_within;
         })
-        (λ v. record { refusal = refl; complete = refl; numbered = v; low = payload_low (type_of H) (held ++ take m rest); taken = refl; parser = refl; held = refl })
+        (λ v. record { refusal = refl; complete = refl; numbered = v; low = payload_low (type_of H) (held ++ take m rest); taken = refl; parser = refl; latches = payload_latches (type_of H) (held ++ take m rest); held = refl })
 
     body_matches : passes (header_checks H) ≡ true → Matches b piece H (push_body H k held rest n) (scan_body H z)
     unfolding push_body scan_body
@@ -184,7 +184,7 @@ module _ (head : List ℕ) (hl k : ℕ) (held piece : List ℕ) (size : length h
         (scan_header H z)
     unfolding scan_header
     whole_matches =
-        picked₂ (Matches b piece H) (passes (header_checks H)) body_matches (λ v. record { refusal = refl; complete = refl; numbered = v; low = header_low H; taken = refl; parser = refl; held = refl })
+        picked₂ (Matches b piece H) (passes (header_checks H)) body_matches (λ v. record { refusal = refl; complete = refl; numbered = v; low = header_low H; taken = refl; parser = refl; latches = header_latches H; held = refl })
 
   -- ---- more header bytes are needed
   headed : hl + n < 44 → Pending b piece H (record { answer = waiting H (hl + n) 0 n; held = []; payload = [] })

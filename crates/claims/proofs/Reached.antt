@@ -11,10 +11,13 @@ use lib.ListN.{length, take, drop, replicate, length-append, length-replicate, l
 use lib.Seq.{take_at, take_all, drop_at}
 use lib.Dec.{eqb, leb, ltb}
 use borrow.Author.Tests.{le-leb, leb-true, eq-eqb, ne_eqb, eqb-true, lt-ltb, le-ltb, ltb-true}
+use Rattle.std.specs.Prelude.{Option, Some, None}
 use Rattle.wire.specs.Bytes.{from_le, to_le, overlay, Octets, end, octet}
 use Rattle.wire.specs.Refusals.{pick, refusal, none, first, passes}
 use Rattle.wire.specs.Header.{magic_of, version_of, type_of, flags_of, instance_of, epoch_of, sequence_of, length_of, header_bytes}
+use Rattle.wire.specs.Refusals as refusals
 use Rattle.wire.specs.declared.Refusal.{Refusal}
+use Rattle.wire.specs.declared.errors.RecordError.{RecordError}
 use Rattle.wire.proofs.Rows.{pass_all, picked, and_left, and_right}
 use Rattle.wire.proofs.NumberLaws.{from_to, length_to}
 use Rattle.outer.specs.Outer.{max_payload, value_of, window_ok, credit_ok}
@@ -22,6 +25,8 @@ use Rattle.record.specs.Types.{code_of, length_ok, type_at}
 use Rattle.record.specs.declared.types.RecordType.{RecordType}
 use Rattle.record.specs.declared.types.RecordType.TheVariants.{HostAttach, Reset, Ack, Data, Credit}
 use Rattle.record.specs.Record.{all_zero, header_checks, payload_checks, record_rows, record_bytes}
+use Rattle.parser.specs.Push.{latched, latch}
+use Rattle.parser.proofs.Latches.{latching}
 use Rattle.parser.specs.Push as parser
 use Rattle.parser.specs.Push.{parser_of, counts_ok, error_ok, sound_parser, Push, stopped, waiting, failed, finish, body_taken, push_body, head_taken, head_with, push_head, push_rows, push, held_in, buffered_of}
 use Rattle.parser.specs.declared.RecordParser.{RecordParser}
@@ -435,13 +440,19 @@ module _ (h : List ℕ) (o : Octets h) (l : length h ≡ 44) where
     in_body_part =
         record { piece = piece; octets = octets_append o (octets_zeros k); size = body_long; pushes = λ stage r. ap (λ (u : Push). u.answer) (starts piece stage r) ∙ body_waits_for }
 
+-- an error of which no more is kept than its number is the one that this number latches
+error_back : (x : Option RecordError) → refusals.refused x ≡ refusal (refusals.refused x).number 0 0 0 → x ≡ latch (refusal (refusals.refused x).number 0 0 0)
+unfolding latch
+error_back None q = refl
+error_back (Some e) q = latching e ∙ ap latch q
+
 -- ---- what is reached
 module _ (s : Listing) (stage : List ℕ) (room : max_payload ≤ length stage) (z : Sized s) (t : sound_listing s ≡ true) where
   abbrev p : RecordParser
   p = s.parser
 
   abbrev n : ℕ
-  n = p.error.number
+  n = (latched p).number
 
   r : Reach stage s.offset s.«open»
   r = let f = facts s t in sums stage room s.offset s.«open» (sum_of s.offset s.«open» f.sums) (omega (arith, f.read))
@@ -451,29 +462,32 @@ module _ (s : Listing) (stage : List ℕ) (room : max_payload ≤ length stage) 
   counts = and_left (counts_ok p.header p.header_len p.payload_len) (error_ok n p.header_len) (facts s t).parser
 
   -- a latched error is one of 1 to 9, and goes with no header byte
-  latched : 1 ≤ n → (n ≤ 9) × (p.header_len ≡ 0)
+  latched_low : 1 ≤ n → (n ≤ 9) × (p.header_len ≡ 0)
   unfolding sound_parser error_ok
-  latched e =
+  latched_low e =
       let w : leb n 9 && eqb p.header_len 0 ≡ true =
       sym (ap (λ (x : Bool). x || (leb n 9 && eqb p.header_len 0)) (ne_eqb n 0 (λ q. omega arith)))
       ∙ and_right (counts_ok p.header p.header_len p.payload_len) (error_ok n p.header_len) (facts s t).parser
       in
       (leb-true n 9 (and_left (leb n 9) (eqb p.header_len 0) w), eqb-true p.header_len 0 (and_right (leb n 9) (eqb p.header_len 0) w))
 
-  error_is : p.error ≡ refusal n 0 0 0
+  error_is : (latched p) ≡ refusal n 0 0 0
   unfolding is_settled
-  error_is = number_is p.error (and_left (number_only p.error) (all_zero (drop p.header_len p.header)) (facts s t).settled) z.expected z.actual
+  error_is = number_is (latched p) (and_left (number_only (latched p)) (all_zero (drop p.header_len p.header)) (facts s t).settled) z.expected z.actual
 
   zero_behind : all_zero (drop p.header_len p.header) ≡ true
   unfolding is_settled
-  zero_behind = and_right (number_only p.error) (all_zero (drop p.header_len p.header)) (facts s t).settled
+  zero_behind = and_right (number_only (latched p)) (all_zero (drop p.header_len p.header)) (facts s t).settled
+
+  error_latch : p.error ≡ latch (refusal n 0 0 0)
+  error_latch = error_back p.error error_is
 
   -- no header byte is held
   idle_is : p.header_len ≡ 0 → p ≡ idle n
   idle_is e =
       let k : p.payload_len ≡ 0 = (filling_counts p.header p.header_len p.payload_len counts (λ q. omega arith)).1 in
       let h : p.header ≡ replicate 44 0 = zeros_of 44 p.header z.header (subst (λ (j : ℕ). all_zero (drop j p.header) ≡ true) e zero_behind) in
-      λ i. parser_of (h i) (e i) (k i) (error_is i)
+      λ i. parser_of (h i) (e i) (k i) (error_latch i)
 
   -- the last call leaves s
   leaves : (x : Listing) → x.parser ≡ p → x.offset ≡ s.offset → x.«open» ≡ s.«open» → x ≡ s
@@ -481,6 +495,7 @@ module _ (s : Listing) (stage : List ℕ) (room : max_payload ≤ length stage) 
 
   -- nothing is held
   between : p.header_len ≡ 0 → n ≡ 0 → Reached s stage
+  unfolding latch
   between e q =
       let k : p.payload_len ≡ 0 = (filling_counts p.header p.header_len p.payload_len counts (λ q. omega arith)).1 in
       record {
@@ -497,6 +512,7 @@ module _ (s : Listing) (stage : List ℕ) (room : max_payload ≤ length stage) 
 
   -- the first part of a record is held
   under_way : Part p.header p.header_len p.payload_len → (p.header_len ≡ 0 → ⊥) → Reached s stage
+  unfolding latch
   under_way b e =
       let q : n ≡ 0 = clear in
       let f = facts s t in
@@ -505,9 +521,9 @@ module _ (s : Listing) (stage : List ℕ) (room : max_payload ≤ length stage) 
       let x : Outcome = list_of r.t b.piece r.after out in
       let same : x.listed.listing ≡ s =
       w.1
-      ∙ leaves (listing_of (settled (parser_of p.header p.header_len p.payload_len none)) r.t.offset r.t.«open»)
-      (sym (keeps_all (parser_of p.header p.header_len p.payload_len none) e)
-      ∙ (λ i. parser_of p.header p.header_len p.payload_len (sym (error_is ∙ ap (λ (j : ℕ). refusal j 0 0 0) q) i)))
+      ∙ leaves (listing_of (settled (parser_of p.header p.header_len p.payload_len None)) r.t.offset r.t.«open»)
+      (sym (keeps_all (parser_of p.header p.header_len p.payload_len None) e)
+      ∙ (λ i. parser_of p.header p.header_len p.payload_len (sym (error_latch ∙ ap (λ (j : ℕ). latch (refusal j 0 0 0)) q) i)))
       r.offset_is r.open_is
       in
       record {
@@ -525,20 +541,20 @@ module _ (s : Listing) (stage : List ℕ) (room : max_payload ≤ length stage) 
       clear = go (dec_lt 0 n)
         where
           go : Dec (0 < n) → n ≡ 0
-          go (yes l) = absurd (e (latched l).1)
+          go (yes l) = absurd (e (latched_low l).1)
           go (no l) = omega arith
 
   -- the last record was refused
   stopped_at : 1 ≤ n → Reached s stage
   stopped_at e =
-      let b : Bad n = bads n e (latched e).0 in
+      let b : Bad n = bads n e (latched_low e).0 in
       let f = facts s t in
       let none_held : buffered_of p ≡ 0 = (again p 65536 [] [] f.parser (ne_eqb n 0 (λ q. omega arith)) (omega arith)).buffered in
       let some : 44 ≤ refused_bytes n = refused_some n e in
       let w = fails r.t r.after b.piece out r.at (omega (arith, r.offset_is, b.size, f.all)) (omega (arith, b.size)) out_room b.told b.scans in
       let x : Outcome = list_of r.t b.piece r.after out in
       let same : x.listed.listing ≡ s =
-      w ∙ leaves (listing_of (idle b.told.number) r.t.offset r.t.«open») (ap idle b.number ∙ sym (idle_is (latched e).1)) r.offset_is r.open_is
+      w ∙ leaves (listing_of (idle b.told.number) r.t.offset r.t.«open») (ap idle b.number ∙ sym (idle_is (latched_low e).1)) r.offset_is r.open_is
       in
       record {
         input = r.input ++ b.piece;
@@ -552,12 +568,12 @@ module _ (s : Listing) (stage : List ℕ) (room : max_payload ≤ length stage) 
       }
 
 pub reached : SoundIsReached
-reached s stage room z t = go (dec_lt 0 s.parser.error.number) (ℕ_discrete s.parser.header_len 0) (ℕ_discrete s.parser.header_len 44)
+reached s stage room z t = go (dec_lt 0 (latched s.parser).number) (ℕ_discrete s.parser.header_len 0) (ℕ_discrete s.parser.header_len 44)
   where
     p : RecordParser
     p = s.parser
 
-    go : Dec (0 < p.error.number) → Dec (p.header_len ≡ 0) → Dec (p.header_len ≡ 44) → Reached s stage
+    go : Dec (0 < (latched p).number) → Dec (p.header_len ≡ 0) → Dec (p.header_len ≡ 44) → Reached s stage
     go (yes e) a b = stopped_at s stage room z t e
     go (no e) (yes a) b = between s stage room z t a (omega arith)
     go (no e) (no a) (yes b) =

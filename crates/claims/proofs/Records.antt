@@ -3,19 +3,18 @@
 -- over the laws of headers of `wire`. Assumes nothing.
 use Prim.Native.Nat.{ℕ, ◌+◌, ◌^◌, ◌≤◌, ◌<◌}
 use mathlib.Core.Path.{◌≡◌, refl, sym, ap, ap₂, ◌∙◌}
-use mathlib.Core.Bool.{Bool, true, false, ◌&&◌}
-use mathlib.Core.List.{List, [], ◌∷◌, ◌++◌, append_assoc}
+use mathlib.Core.Bool.{true, false, ◌&&◌}
+use mathlib.Core.List.{List, ◌++◌, append_assoc}
 use native.Mathlib.Omega.{arith}
 use lib.ListN.{length, take, length-append}
 use lib.Seq.{take_at}
-use lib.Dec.{eqb, lit≤}
+use lib.Dec.{eqb}
 use borrow.Author.Tests.{le-ltb, eqb-true}
 use Rattle.wire.specs.Bytes.{from_le, Octets}
 use Rattle.wire.specs.Refusals.{none, first, passes}
 use Rattle.wire.specs.Header.{magic, magic_of, version_of, type_of, flags_of, instance_of, epoch_of, sequence_of, length_of, header_bytes}
 use Rattle.outer.specs.Outer.{header_of, outer_ok, decode_outer_header}
 use Rattle.outer.specs.Outer as Outer
-use Rattle.wire.specs.declared.Refusal.{Refusal}
 use Rattle.outer.specs.declared.OuterHeader.{OuterHeader}
 use Rattle.outer.specs.Outer.{DecodedHeader}
 use Rattle.wire.proofs.Rows.{Passed, passed, pass_all, picked, and_left, and_right}
@@ -28,24 +27,6 @@ use Rattle.std.specs.Prelude.{Option, Some, None}
 use Rattle.record.proofs.TypesCases.{known_code, unknown_code, code_low, code_type, length_limit}
 use Rattle.claims.specs.Reading.{record_from, encoded}
 use Rattle.claims.proofs.Scans.{whole, scan, scan_value, scan_body, scan_header, scan_cut}
-
--- ---- refusals of the checks are 1 to 9
-abbrev Low : List (Bool × Refusal) → Type 0
-Low [] = Unit {0}
-Low (row ∷ rows) = (row.1.number ≤ 9) × Low rows
-
-first_low : (rows : List (Bool × Refusal)) → Low rows → (first rows).number ≤ 9
-unfolding first
-first_low [] l = omega arith
-first_low (row ∷ rows) l = picked (λ (r : Refusal). r.number ≤ 9) row.0 (λ _. first_low rows l.1) (λ _. l.0)
-
-pub header_low : (h : List ℕ) → (header_checks h).number ≤ 9
-unfolding header_checks
-header_low h = first_low (header_rows h) (lit≤ tt, (lit≤ tt, (lit≤ tt, (lit≤ tt, (lit≤ tt, (lit≤ tt, tt))))))
-
-pub payload_low : (t : ℕ) (y : List ℕ) → (payload_checks t y).number ≤ 9
-unfolding payload_checks
-payload_low t y = first_low (payload_rows t y) (lit≤ tt, (lit≤ tt, (lit≤ tt, tt)))
 
 -- ---- a header that passes
 pub checks_passed : (h : List ℕ) → passes (header_checks h) ≡ true → Passed (header_rows h)

@@ -26,7 +26,7 @@ use Rattle.guest_core.specs.Writes as W
 use Rattle.guest_core.specs.Calls as C
 use Rattle.guest_core.specs.Asks as A
 use Rattle.guest_core.specs.declared.GuestState.TheVariants as State
-use Rattle.guest.specs.declared.accept.GuestEvent.TheVariants as Event
+use Rattle.guest.specs.Event as Event
 use Rattle.claims.specs.Reading.{record_from, encodings}
 use Rattle.claims.specs.GuestCalls.{own, attach, acknowledge, ask_state, Call, receive, write, ask, state, Answer, received, sent, told, fresh}
 use Rattle.claims.specs.GuestHistory.{trace, history, AllOwnOrShorter, no_transcript, transcribe}

@@ -1,5 +1,6 @@
 -- A call of `list` writes a beginning of what is still to be written, and so do calls one after the other: each turn of the loop is one
 -- push, and texts put one after the other are one text. Assumes nothing.
+use Rattle.parser.specs.Push.{latched}
 use Prim.Native.Nat.{ℕ, zero, suc, ◌+◌, ◌-◌, ◌≤◌, min}
 use mathlib.Core.Path.{◌≡◌, refl, sym, ap, subst, ◌∙◌}
 use mathlib.Core.Bool.{Bool, true, false, ◌&&◌}
@@ -43,7 +44,7 @@ stays s stage piece output taken at g l o ew eo es et ek =
       law = λ rest. λ i. future (es i) (et i) (drop (ek i) piece ++ rest);
     }
 
-lines_run : (n : ℕ) (s : Listing) (piece stage output : List ℕ) (taken at : ℕ) → Good s stage → passes s.parser.error ≡ true → taken ≤ length piece
+lines_run : (n : ℕ) (s : Listing) (piece stage output : List ℕ) (taken at : ℕ) → Good s stage → passes (latched s.parser) ≡ true → taken ≤ length piece
     → read_of s + length piece ≤ limit + taken → at ≤ length output → Run s stage piece output taken at (lines n s piece stage output taken at)
 unfolding lines
 lines_run zero s piece stage output taken at g c w l r = stays s stage piece output taken at g r _ refl refl refl refl refl
@@ -87,10 +88,10 @@ rows_tell true false c d r q e = true_not_false (sym e)
 rows_tell false b c d r q e = true_not_false (sym e)
 
 pub list_passes : (s : Listing) (stage output : List ℕ) → passes (first (list_rows s stage output)) ≡ true
-    → (sound_listing s ≡ true) × (leb line_room (length output) ≡ true) × (passes s.parser.error ≡ true)
+    → (sound_listing s ≡ true) × (leb line_room (length output) ≡ true) × (passes (latched s.parser) ≡ true)
 unfolding first
 list_passes s stage output =
-    rows_tell (sound_listing s) (leb max_payload (length stage)) (leb line_room (length output)) (passes s.parser.error) s.parser.error refl
+    rows_tell (sound_listing s) (leb max_payload (length stage)) (leb line_room (length output)) (passes (latched s.parser)) (latched s.parser) refl
 
 module _ (s : Listing) (piece stage output : List ℕ) (g : Good s stage) where
   list_run : Run s stage piece output 0 0 (list_of s piece stage output)

@@ -13,12 +13,13 @@ use Rattle.wire.specs.declared.Refusal.{Refusal}
 use Rattle.outer.specs.Outer.{max_payload}
 use Rattle.wire.proofs.Rows.{Passed, picked, and_left, and_right}
 use Rattle.record.specs.Record.{header_checks, payload_checks}
+use Rattle.parser.specs.Push.{latched}
 use Rattle.parser.specs.Push.{counts_ok, error_ok, sound_parser, Push, finish, body_taken, push_body, head_taken, head_with, push_head, push_rows, push, buffered_of}
 use Rattle.parser.specs.declared.RecordParser.{RecordParser}
 use Rattle.parser.specs.declared.Place.{Place}
 use Rattle.claims.specs.States.{keeps_state}
 use Rattle.claims.proofs.Outcomes.{true_not_false, Part, in_head, in_body, part_of, part_low}
-use Rattle.claims.proofs.ParserSound.{header_low, payload_low}
+use Rattle.parser.proofs.Latches.{header_low, payload_low}
 use Rattle.claims.proofs.HostNever.{latched_low}
 
 -- ---- rows
@@ -66,15 +67,15 @@ head_low header n k held piece =
     picked Low (ltb (n + head_taken n piece) 44) (λ _. lit≤ tt)
     (λ _. picked Low (passes (header_checks h)) (λ _. body_low h k held (drop (head_taken n piece) piece) (head_taken n piece)) (λ _. header_low h))
 
-rows_low : (p : RecordParser) (size : ℕ) → sound_parser p ≡ true → leb max_payload size ≡ true → p.error.number ≤ 9 → (first (push_rows p size)).number ≤ 9
+rows_low : (p : RecordParser) (size : ℕ) → sound_parser p ≡ true → leb max_payload size ≡ true → (latched p).number ≤ 9 → (first (push_rows p size)).number ≤ 9
 unfolding first
-rows_low p size s room l = rw (s, room) (picked (λ (r : Refusal). r.number ≤ 9) (passes p.error) (λ _. lit≤ tt) (λ _. l))
+rows_low p size s room l = rw (s, room) (picked (λ (r : Refusal). r.number ≤ 9) (passes (latched p)) (λ _. lit≤ tt) (λ _. l))
 
 pub push_low : (p : RecordParser) (size : ℕ) (held piece : List ℕ) → sound_parser p ≡ true → leb max_payload size ≡ true → (push p size held piece).answer.refusal.number ≤ 9
 unfolding push sound_parser
 push_low p size held piece s room =
-    let l : p.error.number ≤ 9 =
-    latched_low p.error.number p.header_len (and_right (counts_ok p.header p.header_len p.payload_len) (error_ok p.error.number p.header_len) s)
+    let l : (latched p).number ≤ 9 =
+    latched_low (latched p).number p.header_len (and_right (counts_ok p.header p.header_len p.payload_len) (error_ok (latched p).number p.header_len) s)
     in
     picked Low (passes (first (push_rows p size))) (λ _. head_low p.header p.header_len p.payload_len held piece) (λ _. rows_low p size s room l)
 
@@ -117,5 +118,5 @@ unfolding push sound_parser
 push_buffers p size held piece s =
     picked (Buffers (buffered_of p)) (passes (first (push_rows p size)))
     (λ _. head_buffers p.header p.header_len p.payload_len held piece
-    (part_of p.header p.header_len p.payload_len (and_left (counts_ok p.header p.header_len p.payload_len) (error_ok p.error.number p.header_len) s)))
+    (part_of p.header p.header_len p.payload_len (and_left (counts_ok p.header p.header_len p.payload_len) (error_ok (latched p).number p.header_len) s)))
     (λ q. refused_buffers (buffered_of p) _ q refl)

@@ -17,7 +17,9 @@ use Rattle.wire.proofs.Rows.{passed, pass_all}
 use Rattle.record.specs.Types.{code_of}
 use Rattle.record.specs.Record.{header_checks, payload_checks, record_of, record_with, record_rows, encode_rows, encode_record}
 use Rattle.record.specs.declared.Record.{Record}
-use Rattle.parser.specs.Push.{parser_of, counts_ok, error_ok, sound_parser, Push, head_taken, head_with, push}
+use Rattle.parser.specs.Push.{latched}
+use Rattle.parser.proofs.Latches.{latch_sound}
+use Rattle.parser.specs.Push.{sound_parser, Push, head_taken, head_with, push}
 use Rattle.parser.specs.declared.RecordParser.{RecordParser}
 use Rattle.claims.specs.Reading.{held_bytes, Ready, encoded, Streams, Refuses, Encodes, NotSooner, EncodingUndoesReading}
 use Rattle.claims.proofs.Octets.{octets_overlay}
@@ -45,18 +47,14 @@ module _ {b piece H : List ℕ} {u : Push} {h y : List ℕ} (e : Completed b pie
 
 -- ---- a refusal
 module _ {H : List ℕ} {u : Push} {r : Refusal} (e : Refused H u r) where
-  latched_sound : sound_parser (parser_of H 0 0 r) ≡ true
-  unfolding sound_parser counts_ok error_ok
-  latched_sound = simp (e.numbered, le-leb r.number 9 e.low)
-
   pub refused_latches : Refuses u
   refused_latches =
       record {
         number = subst (λ (x : Refusal). x.number ≤ 9) (sym e.refusal) e.low;
         taken = e.taken;
-        error = ap (λ (q : RecordParser). q.error) e.parser ∙ sym e.refusal;
+        error = ap latched e.parser ∙ e.latches ∙ sym e.refusal;
         empty = λ j. held_bytes (e.parser j) (e.held j);
-        sound = ap sound_parser e.parser ∙ latched_sound;
+        sound = ap sound_parser e.parser ∙ latch_sound H r;
       }
 
 -- ---- the stream law

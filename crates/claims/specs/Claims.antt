@@ -1,4 +1,5 @@
 -- What is claimed of the listing over whole captures (01, "The link listing"), gathered in `ListingClaims`.
+use Rattle.parser.specs.Push.{latched}
 use Rattle.std.specs.Prelude.{ℕ, ◌+◌, ◌≤◌, ◌<◌, ◌≡◌, true, List, [], ◌∷◌, ◌++◌, length, take}
 use Rattle.wire.specs.Bytes.{Octets}
 use Rattle.wire.specs.Refusals.{passes}
@@ -39,8 +40,8 @@ NeverUnsound =
 pub record Sized (s : Listing) : Type 0 where
   pub header : length s.parser.header ≡ 44
   pub octets : Octets s.parser.header
-  pub expected : length s.parser.error.expected ≡ 16
-  pub actual : length s.parser.error.actual ≡ 16
+  pub expected : length (latched s.parser).expected ≡ 16
+  pub actual : length (latched s.parser).actual ≡ 16
 
 -- A capture, and calls to the end of reading that leave s. The capture has as many bytes as s has read.
 pub record Reached (s : Listing) (stage : List ℕ) : Type 0 where
@@ -49,7 +50,7 @@ pub record Reached (s : Listing) (stage : List ℕ) : Type 0 where
   pub after : List ℕ
   pub texts : List (List ℕ)
   pub octets : Octets input
-  pub size : length input ≡ read_of s + refused_bytes s.parser.error.number
+  pub size : length input ≡ read_of s + refused_bytes (latched s.parser).number
   pub calls : Calls fresh stage input left s after texts
   pub ended : Ended s left
 

@@ -17,7 +17,7 @@ use Rattle.guest_core.specs.Calls.{attach, acknowledge}
 use Rattle.guest_core.specs.Send.{send, credit}
 use Rattle.guest_core.specs.declared.GuestState.{GuestState}
 use Rattle.guest_core.specs.declared.GuestState.TheVariants as State
-use Rattle.guest.specs.declared.accept.GuestEvent.TheVariants as Event
+use Rattle.guest.specs.Event as Event
 use Rattle.guest_core.specs.declared.GuestSession.{GuestSession}
 
 -- ---- what the examples speak of

@@ -5,7 +5,7 @@ use Rattle.wire.specs.Bytes.{Octets}
 use Rattle.wire.specs.declared.Refusal.{Refusal}
 use Rattle.parser.specs.Push.{payload_at}
 use Rattle.parser.specs.declared.Place.{Place}
-use Rattle.parser.specs.declared.Count.{Count}
+use Rattle.parser.specs.Push.{Count}
 use Rattle.session.specs.declared.Identity.{Identity}
 use Rattle.guest_core.specs.State.{fresh_guest}
 use Rattle.guest.specs.Receive as Receive
@@ -13,15 +13,15 @@ use Rattle.guest_core.specs.Writes as Writes
 use Rattle.guest_core.specs.Calls as Calls
 use Rattle.guest_core.specs.Send as Sends
 use Rattle.guest_core.specs.Asks as Asks
-use Rattle.guest.specs.declared.accept.GuestEvent.{GuestEvent}
-use Rattle.guest.specs.declared.accept.GuestEvent.TheVariants as Event
+use Rattle.guest.specs.Event.{GuestEvent}
+use Rattle.guest.specs.Event as Event
 use Rattle.guest_core.specs.declared.GuestSession.{GuestSession}
-use Rattle.guest.specs.declared.accept.Received.{Received}
-use Rattle.guest_core.specs.declared.control.Closed.{Closed}
-use Rattle.guest_core.specs.declared.asks.StateAnswer.{StateAnswer}
-use Rattle.guest_core.specs.declared.asks.IdentityAnswer.{IdentityAnswer}
-use Rattle.guest_core.specs.declared.asks.WindowAnswer.{WindowAnswer}
-use Rattle.guest_core.specs.declared.asks.OutstandingAnswer.{OutstandingAnswer}
+use Rattle.guest.specs.Receive.{Received}
+use Rattle.guest_core.specs.Calls.{Closed}
+use Rattle.guest_core.specs.Asks.{StateAnswer}
+use Rattle.guest_core.specs.Asks.{IdentityAnswer}
+use Rattle.guest_core.specs.Asks.{WindowAnswer}
+use Rattle.guest_core.specs.Asks.{OutstandingAnswer}
 
 -- ---- calls
 -- the stage that a receive is lent: the session's own, or another

@@ -9,9 +9,9 @@ use Rattle.record.specs.Record.{header_checks}
 use Rattle.parser.specs.Push.{buffered_of}
 use Rattle.guest_core.specs.State.{is_failed, sound_guest}
 use Rattle.guest_core.specs.Asks.{outstanding_of}
-use Rattle.guest.specs.declared.accept.GuestEvent.TheVariants as Event
+use Rattle.guest.specs.Event as Event
 use Rattle.guest_core.specs.declared.GuestSession.{GuestSession}
-use Rattle.guest_core.specs.declared.asks.OutstandingAnswer.{OutstandingAnswer}
+use Rattle.guest_core.specs.Asks.{OutstandingAnswer}
 use Rattle.claims.specs.GuestCalls.{own, other, Writing, Ask, Call, receive, write, disconnect, ask, Answer, refusal_of, event_of, Endpoint, step, fresh}
 use Rattle.claims.specs.GuestHistory.{after, Seen, trace, history, AllOwnOrShorter, Tally, no_tally, count, Transcript, no_transcript, transcribe, handed_bytes}
 

@@ -5,8 +5,8 @@ use Rattle.wire.specs.Refusals.{pick, passes}
 use Rattle.wire.specs.Header.{instance_of, epoch_of, sequence_of}
 use Rattle.outer.specs.Outer.{max_payload}
 use Rattle.record.specs.Record.{record_bytes}
-use Rattle.guest.specs.declared.accept.GuestEvent.{GuestEvent}
-use Rattle.guest.specs.declared.accept.GuestEvent.TheVariants as Event
+use Rattle.guest.specs.Event.{GuestEvent}
+use Rattle.guest.specs.Event as Event
 use Rattle.claims.specs.GuestCalls.{own, other, Writing, attach, acknowledge, send, credit, Call, receive, write, disconnect, ask}
 use Rattle.claims.specs.GuestCalls.{Answer, refusal_of, event_of, consumed_of, payload_of, Endpoint, step, fresh}
 

@@ -7,7 +7,7 @@ use Rattle.outer.specs.Outer.{max_payload}
 use Rattle.record.specs.declared.Record.{Record}
 use Rattle.host.specs.State.{is_open}
 use Rattle.host.specs.declared.HostState.{HostState}
-use Rattle.host.specs.declared.accept.HostEvent.TheVariants as Event
+use Rattle.host.specs.Event as Event
 use Rattle.claims.specs.Reading.{encoded, encodings}
 use Rattle.claims.specs.Sent.{Encodable, AllEncodable}
 use Rattle.claims.specs.GuestClaims.{Unfinished}

@@ -5,16 +5,16 @@ use Rattle.wire.specs.Refusals.{refusal}
 use Rattle.wire.specs.declared.Refusal.{Refusal}
 use Rattle.parser.specs.Push.{payload_at}
 use Rattle.parser.specs.declared.Place.{Place}
-use Rattle.parser.specs.declared.Count.{Count}
+use Rattle.parser.specs.Push.{Count}
 use Rattle.session.specs.declared.Identity.{Identity}
 use Rattle.host.specs.State.{fresh_host, sound_host}
 use Rattle.host.specs.Receive as Receive
 use Rattle.host.specs.Asks as Asks
 use Rattle.host.specs.Calls as Calls
-use Rattle.host.specs.declared.accept.HostEvent.{HostEvent}
+use Rattle.host.specs.Event.{HostEvent}
 use Rattle.host.specs.declared.HostSession.{HostSession}
-use Rattle.host.specs.declared.asks.StateAnswer.{StateAnswer}
-use Rattle.host.specs.declared.asks.IdentityAnswer.{IdentityAnswer}
+use Rattle.host.specs.Asks.{StateAnswer}
+use Rattle.host.specs.Asks.{IdentityAnswer}
 
 -- ---- calls and answers
 pub data HostCall : Type 0 where

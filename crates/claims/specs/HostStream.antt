@@ -9,8 +9,8 @@ use Rattle.outer.specs.Outer.{max_payload}
 use Rattle.session.specs.Checks.{identity_of, identity_ok}
 use Rattle.session.specs.declared.Identity.{Identity}
 use Rattle.host.specs.Calls as Calls
-use Rattle.host.specs.declared.accept.HostEvent.{HostEvent}
-use Rattle.host.specs.declared.accept.HostEvent.TheVariants as Event
+use Rattle.host.specs.Event.{HostEvent}
+use Rattle.host.specs.Event as Event
 use Rattle.claims.specs.Reading.{encodings}
 use Rattle.claims.specs.Sent.{AllEncodable, FirstOf}
 use Rattle.claims.specs.GuestClaims.{Unfinished}

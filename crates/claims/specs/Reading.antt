@@ -10,9 +10,10 @@ use Rattle.record.specs.Types.{code_of}
 use Rattle.record.specs.Record.{record_rows, record_bytes, encode_record}
 use Rattle.record.specs.declared.types.RecordType.{RecordType}
 use Rattle.record.specs.declared.Record.{Record}
+use Rattle.parser.specs.Push.{latched}
 use Rattle.parser.specs.Push.{sound_parser, Push, stopped, push, push_stage, Outcome, push_of, fresh, held_in, payload_at, needed_of, buffered_of}
 use Rattle.parser.specs.declared.RecordParser.{RecordParser}
-use Rattle.parser.specs.declared.Pushed.{Pushed}
+use Rattle.parser.specs.Push.{Pushed}
 
 -- ---- parsers and records
 -- the bytes that a parser holds: of the header, and `held`, of the payload
@@ -22,7 +23,7 @@ held_bytes p held = take p.header_len p.header ++ held
 -- a parser that can go on: sound, with no latched error, its header 44 bytes long, and as many payload bytes held as it counts
 pub record Ready (p : RecordParser) (held : List ℕ) : Type 0 where
   pub sound : sound_parser p ≡ true
-  pub clear : passes p.error ≡ true
+  pub clear : passes (latched p) ≡ true
   pub size : length p.header ≡ 44
   pub count : length held ≡ p.payload_len
 
@@ -71,7 +72,7 @@ pub record Completes (p : RecordParser) (held piece : List ℕ) (u : Push) : Typ
 pub record Refuses (u : Push) : Type 0 where
   pub number : u.answer.refusal.number ≤ 9
   pub taken : u.answer.consumed ≡ 0
-  pub error : u.answer.parser.error ≡ u.answer.refusal
+  pub error : latched u.answer.parser ≡ u.answer.refusal
   pub empty : held_bytes u.answer.parser u.held ≡ []
   pub sound : sound_parser u.answer.parser ≡ true
 
@@ -83,7 +84,7 @@ pub record Streams (p : RecordParser) (held piece : List ℕ) (u : Push) : Type 
 
 -- a push of a parser with a latched error gives it again and changes nothing; 44 bytes are needed and none are buffered
 pub record Again (p : RecordParser) (u : Push) : Type 0 where
-  pub answer : u.answer ≡ stopped p p.error
+  pub answer : u.answer ≡ stopped p (latched p)
   pub needed : needed_of p ≡ 44
   pub buffered : buffered_of p ≡ 0
 
@@ -201,7 +202,7 @@ PushStages =
 -- A latched error is given again.
 abbrev pub ErrorsLatch : Type 0
 ErrorsLatch =
-    (p : RecordParser) (size : ℕ) (held piece : List ℕ) → sound_parser p ≡ true → passes p.error ≡ false → max_payload ≤ size
+    (p : RecordParser) (size : ℕ) (held piece : List ℕ) → sound_parser p ≡ true → passes (latched p) ≡ false → max_payload ≤ size
     → Again p (push p size held piece)
 
 -- A push leaves a sound parser sound, whatever it answers.

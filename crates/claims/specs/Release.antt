@@ -13,8 +13,8 @@ use Rattle.session.specs.declared.Identity.{Identity}
 use Rattle.guest_core.specs.State.{is_open}
 use Rattle.guest_core.specs.declared.GuestState.{GuestState}
 use Rattle.guest_core.specs.declared.GuestState.TheVariants as State
-use Rattle.guest.specs.declared.accept.GuestEvent.{GuestEvent}
-use Rattle.guest.specs.declared.accept.GuestEvent.TheVariants as Event
+use Rattle.guest.specs.Event.{GuestEvent}
+use Rattle.guest.specs.Event as Event
 use Rattle.claims.specs.Reading.{encoded, encodings}
 use Rattle.claims.specs.Sent.{Encodable, AllEncodable}
 use Rattle.claims.specs.GuestCalls.{Lent, own, Writing, Call, receive, write, disconnect, ask, ask_state, Answer, received, sent, closed, told, state}

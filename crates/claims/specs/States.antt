@@ -8,9 +8,9 @@ use Rattle.session.specs.declared.Identity.{Identity}
 use Rattle.guest_core.specs.State as GuestIs
 use Rattle.guest_core.specs.declared.GuestState.{GuestState}
 use Rattle.guest_core.specs.declared.GuestState.TheVariants as State
-use Rattle.guest_core.specs.declared.asks.WindowAnswer.{WindowAnswer}
-use Rattle.guest.specs.declared.accept.GuestEvent.{GuestEvent}
-use Rattle.guest.specs.declared.accept.GuestEvent.TheVariants as Event
+use Rattle.guest_core.specs.Asks.{WindowAnswer}
+use Rattle.guest.specs.Event.{GuestEvent}
+use Rattle.guest.specs.Event as Event
 use Rattle.claims.specs.GuestCalls.{Writing, attach, acknowledge, send, credit, ask_state, ask_identity, ask_window, Call, receive, write, disconnect, ask}
 use Rattle.claims.specs.GuestCalls.{state, identity, window, Answer, told, refusal_of, event_of, step, fresh}
 use Rattle.claims.specs.GuestHistory.{after, trace, history}
@@ -20,8 +20,8 @@ use Rattle.claims.specs.GuestHistory.{tally_of}
 use Rattle.host.specs.State as HostIs
 use Rattle.host.specs.declared.HostState.{HostState}
 use Rattle.host.specs.declared.HostState.TheVariants as HostStates
-use Rattle.host.specs.declared.accept.HostEvent.{HostEvent}
-use Rattle.host.specs.declared.accept.HostEvent.TheVariants as HostEvents
+use Rattle.host.specs.Event.{HostEvent}
+use Rattle.host.specs.Event as HostEvents
 use Rattle.claims.specs.HostCalls.{HostCall, HostAnswer, HostReply, HostPlace}
 use Rattle.claims.specs.HostCalls as H
 use Rattle.claims.specs.HostStream.{host_event_of}

@@ -6,12 +6,12 @@ use Rattle.wire.specs.Refusals.{pick, refusal, none, first, passes}
 use Rattle.wire.specs.declared.Refusal.{Refusal}
 use Rattle.guest_core.specs.State as GuestIs
 use Rattle.guest_core.specs.declared.GuestState.{GuestState}
-use Rattle.guest.specs.declared.accept.GuestEvent.{GuestEvent}
-use Rattle.guest.specs.declared.accept.GuestEvent.TheVariants as Event
+use Rattle.guest.specs.Event.{GuestEvent}
+use Rattle.guest.specs.Event as Event
 use Rattle.host.specs.State as HostIs
 use Rattle.host.specs.declared.HostState.{HostState}
-use Rattle.host.specs.declared.accept.HostEvent.{HostEvent}
-use Rattle.host.specs.declared.accept.HostEvent.TheVariants as HostEvents
+use Rattle.host.specs.Event.{HostEvent}
+use Rattle.host.specs.Event as HostEvents
 use Rattle.claims.specs.GuestCalls.{Lent, Writing, attach, acknowledge, send, credit, Call, receive, write, disconnect, ask, Answer, refusal_of, event_of, consumed_of, stage_of, step, fresh}
 use Rattle.claims.specs.GuestHistory.{tally_of, after, trace, history, count}
 use Rattle.claims.specs.HostCalls as Host

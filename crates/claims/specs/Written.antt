@@ -8,10 +8,10 @@ use Rattle.wire.specs.declared.Refusal.{Refusal}
 use Rattle.record.specs.Record.{record_bytes}
 use Rattle.session.specs.Checks.{no_identity}
 use Rattle.session.specs.declared.Identity.{Identity}
-use Rattle.guest.specs.declared.accept.GuestEvent.{GuestEvent}
-use Rattle.guest.specs.declared.accept.GuestEvent.TheVariants as Event
-use Rattle.host.specs.declared.accept.HostEvent.{HostEvent}
-use Rattle.host.specs.declared.accept.HostEvent.TheVariants as HostEvents
+use Rattle.guest.specs.Event.{GuestEvent}
+use Rattle.guest.specs.Event as Event
+use Rattle.host.specs.Event.{HostEvent}
+use Rattle.host.specs.Event as HostEvents
 use Rattle.claims.specs.GuestCalls.{Writing, attach, acknowledge, send, credit, Call, receive, write, disconnect, ask, Answer, received, sent, closed, told, refusal_of, event_of, step, fresh}
 use Rattle.claims.specs.GuestHistory.{transcript_of, after, trace, history, AllOwnOrShorter}
 use Rattle.claims.specs.HostCalls as Host
