@@ -15,16 +15,20 @@ struct Run {
 impl Run {
     // One receive of the front of a piece, and how many bytes it took.
     fn receive(&mut self, piece: &[u8], whole: bool, stage: &mut [u8]) -> usize {
-        let received = guest::receive(self.guest, piece, stage);
-        self.guest = received.session;
-        if let GuestEvent::Data = received.event {
-            let bytes = payload(piece, stage, received.place, received.length);
+        let done = guest::receive(self.guest, piece, stage);
+        self.guest = done.session;
+        let Ok(received) = done.answer else {
+            return 0;
+        };
+        if let Some(GuestEvent::Data { place, length }) = received.event {
+            let bytes = payload(piece, stage, place, length);
             self.sums.add_payload(bytes, whole);
         }
         received.consumed
     }
 
-    // Receives until a piece is taken, and answers whether it was.
+    // Receives until a piece is taken, and answers whether it was. A turn takes what
+    // one receive took, so no iterator walks the piece.
     fn receive_all(&mut self, piece: &[u8], whole: bool, stage: &mut [u8]) -> bool {
         let mut left = piece;
         while !left.is_empty() {

@@ -15,11 +15,11 @@ pub fn nvxs_send(data: &[u8], size: usize, output: &mut [u8]) -> usize
     let mut guest = active_guest();
     let mut next = 0;
     for bytes in data.chunks(size.min(OUTER_MAX_PAYLOAD)) {
-        let sent = guest::send(guest, bytes, output, next);
-        if sent.count == 0 {
+        let done = guest::send(guest, bytes, output, next);
+        let Ok(sent) = done.answer else {
             return 0;
-        }
-        guest = sent.session;
+        };
+        guest = done.session;
         next = sent.next;
     }
     next

@@ -5,17 +5,12 @@ ghost use Rattle.std.specs.Prelude.{◌≡◌, length};
 use crate::start::attached_host;
 use bench_core::start::active_guest;
 use bench_core::sums::Sums;
-use guest::GuestSession;
-use host::HostSession;
-use parser::{RecordParser, push};
+use guest::{GuestEvent, GuestSession};
+use host::{HostEvent, HostSession};
+use parser::{Complete, RecordParser, push};
 use record::codec::encode_record;
 use record::types::RecordType;
 use wire::Sequence;
-
-// The first bytes of a buffer; none where they are not there.
-fn front(buffer: &[u8], end: usize) -> &[u8] {
-    buffer.get(..end).unwrap_or(&[])
-}
 
 // Both ends and the relay between them, and the sums over the echoes.
 #[derive(Drop)]
@@ -38,22 +33,33 @@ impl Link {
     }
 
     // The guest receives a message, sends it back and credits it, and where its answers end.
-    fn answer(&mut self, wire: &[u8], stage: &mut [u8], reply: &mut [u8]) -> usize {
+    fn answer(&mut self, wire: &[u8], stage: &mut [u8], reply: &mut [u8]) -> Option<usize> {
         let received = guest::receive(self.guest, wire, stage);
-        let bytes = guest::payload(wire, stage, received.place, received.length);
+        let Some(GuestEvent::Data { place, length }) = received.answer.ok()?.event else {
+            return None;
+        };
+        let bytes = guest::payload(wire, stage, place, length);
         let sent = guest::send(received.session, bytes, reply, 0);
-        let amount = u32::try_from(bytes.len()).unwrap_or(u32::MAX);
-        let credited = guest::credit(sent.session, amount, reply, sent.next);
+        let next = sent.answer.ok()?.next;
+        let amount = u32::try_from(bytes.len()).ok()?;
+        let credited = guest::credit(sent.session, amount, reply, next);
         self.guest = credited.session;
-        credited.next
+        Some(credited.answer.ok()?.next)
     }
 
     // The relay reads the guest's DATA, writes it with another sequence and reads the CREDIT, and
     // where its record ends.
-    fn relay(&mut self, sequence: u64, reply: &[u8], stage: &mut [u8], wire: &mut [u8]) -> usize {
-        let data = push::push(self.parser, reply, stage);
-        let record = data.record;
-        let bytes = parser::payload(reply, stage, data.place, record.length);
+    fn relay(
+        &mut self,
+        sequence: u64,
+        reply: &[u8],
+        stage: &mut [u8],
+        wire: &mut [u8],
+    ) -> Option<usize> {
+        let pushed = push::push(self.parser, reply, stage);
+        let data = pushed.answer.ok()?;
+        let Complete { record, place } = data.complete?;
+        let bytes = parser::payload(reply, stage, place, record.length);
         let written = encode_record(
             RecordType::Data,
             record.instance_id,
@@ -63,21 +69,25 @@ impl Link {
             wire,
             0,
         );
-        let rest = reply.get(data.consumed..).unwrap_or(&[]);
-        self.parser = push::push(data.parser, rest, stage).parser;
-        written.unwrap_or(0)
+        let rest = reply.get(data.consumed..)?;
+        self.parser = push::push(pushed.parser, rest, stage).parser;
+        written.ok()
     }
 
     // The host receives the echo.
-    fn take(&mut self, wire: &[u8], whole: bool, stage: &mut [u8]) {
+    fn take(&mut self, wire: &[u8], whole: bool, stage: &mut [u8]) -> Option<()> {
         let received = host::receive(self.host, wire, stage);
         self.host = received.session;
-        let echo = host::payload(wire, stage, received.place, received.length);
+        let Some(HostEvent::Data { place, length }) = received.answer.ok()?.event else {
+            return None;
+        };
+        let echo = host::payload(wire, stage, place, length);
         self.sums.add_payload(echo, whole);
+        Some(())
     }
 
     // One message there and back, with its sequence: the host sends it, the guest answers, the relay
-    // hands the answer on, and the host receives it.
+    // hands the answer on, and the host receives it. None where one is refused.
     fn turn(
         &mut self,
         sequence: u64,
@@ -86,16 +96,17 @@ impl Link {
         stage: &mut [u8],
         wire: &mut [u8],
         reply: &mut [u8],
-    ) {
+    ) -> Option<()> {
         let sent = host::send(self.host, message, wire, 0);
         self.host = sent.session;
-        let end = self.answer(front(wire, sent.next), stage, reply);
-        let end = self.relay(sequence, front(reply, end), stage, wire);
-        self.take(front(wire, end), whole, stage);
+        let end = self.answer(wire.get(..sent.answer.ok()?.next)?, stage, reply)?;
+        let end = self.relay(sequence, reply.get(..end)?, stage, wire)?;
+        self.take(wire.get(..end)?, whole, stage)
     }
 }
 
-// Sends a message there and back so many times, and gives the sums over the echoes.
+// Sends a message there and back so many times, and gives the sums over the echoes; 0 where one is
+// refused.
 pub fn nvxs_echo(
     message: &[u8],
     times: u32,
@@ -108,7 +119,12 @@ pub fn nvxs_echo(
 {
     let mut link = Link::new(stage);
     for sequence in 1..=times {
-        link.turn(sequence.into(), message, whole, stage, wire, reply);
+        if link
+            .turn(sequence.into(), message, whole, stage, wire, reply)
+            .is_none()
+        {
+            return 0;
+        }
     }
     link.sums.weighted
 }

@@ -1,6 +1,6 @@
 // What a call answered, at the end of a line.
 use outer::OuterHeader;
-use parser::{Pushed, RecordParser, payload};
+use parser::{Complete, Pushed, RecordParser, payload};
 use print::{Fields, Hex};
 use record::Record;
 use std::fmt;
@@ -30,17 +30,6 @@ impl fmt::Display for Encoded {
     }
 }
 
-// The record that a push completed, none yet, or the refusal.
-pub fn record_in(pushed: Pushed) -> Result<Option<Record>, Refusal> {
-    if pushed.refusal.number != 0 {
-        return Err(pushed.refusal);
-    }
-    if pushed.complete {
-        return Ok(Some(pushed.record));
-    }
-    Ok(None)
-}
-
 // How many bytes a parser still needs, and how many it holds.
 #[derive(Clone, Copy)]
 pub struct Counts(pub RecordParser);
@@ -48,20 +37,20 @@ pub struct Counts(pub RecordParser);
 impl fmt::Display for Counts {
     fn fmt<W: fmt::Write>(&self, f: &mut fmt::Formatter<W>) -> fmt::Result {
         let parser = self.0;
-        let needed = parser.needed().count;
-        let buffered = parser.buffered().count;
+        let needed = parser.needed().unwrap_or(0);
+        let buffered = parser.buffered().unwrap_or(0);
         write!(f, "needed {needed} buffered {buffered}")
     }
 }
 
 // A complete record: its fields, the number in its payload, and the payload's first four bytes.
 #[derive(Clone, Copy)]
-struct Complete<'a> {
+struct Shown<'a> {
     record: Record,
     payload: &'a [u8],
 }
 
-impl<'a> fmt::Display for Complete<'a> {
+impl<'a> fmt::Display for Shown<'a> {
     fn fmt<W: fmt::Write>(&self, f: &mut fmt::Formatter<W>) -> fmt::Result {
         let record = self.record;
         let payload = self.payload;
@@ -94,6 +83,11 @@ fn header_of(record: Record) -> OuterHeader {
     }
 }
 
+// The bytes that a push took.
+pub fn taken(pushed: Pushed) -> usize {
+    pushed.answer.map_or(0, |progress| progress.consumed)
+}
+
 // What a push answered, and its piece and stage. `taken` counts the bytes that it and the pushes
 // before it took.
 #[derive(Clone, Copy)]
@@ -106,15 +100,16 @@ pub struct Answer<'a> {
 
 impl<'a> fmt::Display for Answer<'a> {
     fn fmt<W: fmt::Write>(&self, f: &mut fmt::Formatter<W>) -> fmt::Result {
-        let place = self.pushed.place;
         write!(f, "taken {} ", self.taken)?;
-        match record_in(self.pushed) {
-            Ok(Some(record)) => {
-                let payload = payload(self.piece, self.stage, place, record.length);
-                write!(f, "{}", Complete { record, payload })?;
-            }
-            Ok(None) => write!(f, "no record")?,
-            Err(refusal) => write!(f, "{}", Refused(refusal))?,
+        match self.pushed.answer {
+            Ok(progress) => match progress.complete {
+                Some(Complete { record, place }) => {
+                    let payload = payload(self.piece, self.stage, place, record.length);
+                    write!(f, "{}", Shown { record, payload })?;
+                }
+                None => write!(f, "no record")?,
+            },
+            Err(error) => write!(f, "{}", Refused(Refusal::from(error)))?,
         }
         write!(f, " {}", Counts(self.pushed.parser))
     }

@@ -1,7 +1,7 @@
 // One record through the encoder and through a parser.
 ghost use Rattle.std.specs.Prelude.{◌≤◌};
 
-use crate::answers::{Answer, Counts, Encoded, record_in};
+use crate::answers::{Answer, Counts, Encoded};
 use outer::{OuterHeader, put_record};
 use parser::RecordParser;
 use parser::push::push;
@@ -113,8 +113,9 @@ pub fn in_pieces(rt: &impl Print, bytes: &[u8], n: usize) -> io::Result<()>
     for piece in bytes.chunks(n) {
         let pushed = push(parser, piece, &mut stage);
         parser = pushed.parser;
-        taken = taken.saturating_add(pushed.consumed);
-        if !matches!(record_in(pushed), Ok(None)) {
+        let progress = pushed.answer.ok();
+        taken = taken.saturating_add(progress.map_or(0, |p| p.consumed));
+        if progress.is_none_or(|p| p.complete.is_some()) {
             let stage = &stage;
             return println!(rt;
                 "{}",

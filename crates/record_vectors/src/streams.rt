@@ -1,5 +1,5 @@
 // Streams of several pushes, a line for each push.
-use crate::answers::{Answer, Encoded};
+use crate::answers::{Answer, Encoded, taken};
 use crate::records::Case;
 use parser::{RecordParser, push};
 use record::types::RecordType;
@@ -15,7 +15,7 @@ fn push_each(rt: &impl Print, pieces: &[&[u8]]) -> io::Result<()> {
         parser = pushed.parser;
         let answer = Answer {
             pushed,
-            taken: pushed.consumed,
+            taken: taken(pushed),
             piece,
             stage: &stage,
         };

@@ -1,11 +1,10 @@
 // What a call answers, and its bytes (tests/differential/FORMAT.md).
 use crate::bytes::{Bytes, count4};
 use crate::frames::{AREA, Frame, OUTPUT};
-use crate::options::number_of;
 use guest::GuestSession;
 use host::HostSession;
 use parser::{Place, RecordParser, payload};
-use session::Identity;
+use session::{Identity, Received, Sent};
 use std::alloc::AllocError;
 use wire::Refusal;
 use wire::errors::Error;
@@ -103,28 +102,30 @@ pub struct Answer {
 }
 
 impl Answer {
-    // The answer that has a refusal alone, or nothing.
-    pub fn refused(refusal: Option<Refusal>) -> Answer {
-        Answer {
-            refusal,
-            ..Answer::default()
+    // The answer of an operation that writes: what stands in the output from `at` on.
+    pub fn wrote(sent: Result<Sent, Error>, at: usize) -> Answer {
+        match sent {
+            Ok(sent) => Answer {
+                count: sent.count as u64,
+                next: sent.next as u64,
+                written: Part::Memory {
+                    from: OUTPUT.saturating_add(at),
+                    to: OUTPUT.saturating_add(sent.next),
+                },
+                ..Answer::default()
+            },
+            Err(error) => Answer::from(error),
         }
     }
 
-    // The answer of an operation that writes: what stands in the output from `at` up to `next`.
-    pub fn wrote(refusal: Option<Refusal>, next: usize, at: usize, count: usize) -> Answer {
-        let answer = Answer::refused(refusal);
-        if next <= at {
-            return answer;
-        }
-        Answer {
-            count: count as u64,
-            next: next as u64,
-            written: Part::Memory {
-                from: OUTPUT.saturating_add(at),
-                to: OUTPUT.saturating_add(next),
+    // The answer of a receive: its event, and the bytes that it took.
+    pub fn received<E: Into<Answer>>(received: Result<Received<E>, Error>) -> Answer {
+        match received {
+            Ok(Received { consumed, event }) => Answer {
+                count: consumed as u64,
+                ..event.map_or(Answer::default(), E::into)
             },
-            ..answer
+            Err(error) => Answer::from(error),
         }
     }
 
@@ -173,10 +174,19 @@ impl Answer {
 
 impl From<Error> for Answer {
     fn from(error: Error) -> Answer {
-        Answer::refused(Some(Refusal::from(error)))
+        Answer {
+            refusal: Some(Refusal::from(error)),
+            ..Answer::default()
+        }
     }
 }
 
+// A refusal's number; 0 where there is none.
+pub fn number_of(refusal: Option<Refusal>) -> u8 {
+    refusal.map_or(0, |r| u8::try_from(r.number).unwrap_or(u8::MAX))
+}
+
+// A place's number (FORMAT.md).
 fn place_number(place: Option<Place>) -> u8 {
     match place {
         None => 0,

@@ -1,11 +1,11 @@
 // The bytes of what an answer has (tests/differential/FORMAT.md), appended one after another.
-use crate::options::{number_of, refusal_of};
+use crate::answer::number_of;
 use guest::GuestSession;
 use host::HostSession;
 use parser::RecordParser;
 use session::{Identity, no_identity};
 use std::alloc::AllocError;
-use wire::{Epoch, Refusal, Sequence};
+use wire::{Refusal, Sequence};
 
 pub trait Bytes {
     fn append(self, out: &mut Vec<u8>) -> Result<(), AllocError>;
@@ -69,7 +69,7 @@ impl Bytes for Option<Refusal> {
 
 impl Bytes for RecordParser {
     fn append(self, out: &mut Vec<u8>) -> Result<(), AllocError> {
-        let error = refusal_of(self.error);
+        let error = self.error.map(Refusal::from);
         self.header.append(out)?;
         count4(self.header_len).append(out)?;
         (self.payload_len as u64).append(out)?;

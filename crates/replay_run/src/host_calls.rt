@@ -3,85 +3,88 @@ use crate::answer::{Answer, Part, State};
 use crate::ends::End;
 use crate::frames::{AREA, Frame};
 use crate::operations::WriteCall;
-use crate::options::refusal_of;
 use entries::host_entry::receive_once;
-use host::{HostEvent, HostSession, Sent};
+use host::{Error, HostEvent, HostSession, Received, Sent};
+use session::Identity;
 use wire::Sequence;
 
-// An event's number.
-fn number(event: HostEvent) -> u8 {
-    match event {
-        HostEvent::Nothing => 0,
-        HostEvent::Wait => 3,
-        HostEvent::Attached => 4,
-        HostEvent::Rejected => 5,
-        HostEvent::Data => 6,
-        HostEvent::Reset => 7,
+// An event that reports an identity, or none.
+fn named(event: u8, identity: Option<Identity>) -> Answer {
+    Answer {
+        event,
+        identity,
+        ..Answer::default()
     }
 }
 
-// A call that writes. There is none of a capability that has not 32 bytes, nor an acknowledge or a
-// credit of a host.
-fn sent(session: HostSession, call: WriteCall, f: Frame<'_>, output: &mut [u8]) -> Option<Sent> {
-    match call {
-        WriteCall::Attach => {
-            let capability = <[u8; 32]>::try_from(f.input).ok()?;
-            Some(host::attach(session, capability, output, f.at()))
+// An event by its number, with what it reports.
+impl From<HostEvent> for Answer {
+    fn from(event: HostEvent) -> Answer {
+        match event {
+            HostEvent::Wait => named(3, None),
+            HostEvent::Attached(identity) => named(4, Some(identity)),
+            HostEvent::Rejected => named(5, None),
+            HostEvent::Data { place, length } => Answer {
+                place: Some(place),
+                payload: Part::Payload {
+                    place,
+                    stage: HostSession::STAGE,
+                    length,
+                },
+                ..named(6, None)
+            },
+            HostEvent::Reset(identity) => named(7, Some(identity)),
         }
-        WriteCall::Send => Some(host::send(session, f.input, output, f.at())),
-        WriteCall::Acknowledge | WriteCall::Credit => None,
     }
 }
 
 impl End for HostSession {
+    type Event = HostEvent;
+
     const STAGE: usize = AREA;
 
-    fn write(&mut self, call: WriteCall, f: Frame<'_>, output: &mut [u8]) -> Answer {
-        let Some(sent) = sent(*self, call, f, output) else {
-            return Answer::default();
+    // A capability has 32 bytes, and a host neither acknowledges nor credits.
+    fn write(
+        &mut self,
+        call: WriteCall,
+        f: Frame<'_>,
+        output: &mut [u8],
+    ) -> Option<Result<Sent, Error>> {
+        let done = match call {
+            WriteCall::Attach => {
+                let capability = <[u8; 32]>::try_from(f.input).ok()?;
+                host::attach(*self, capability, output, f.at())
+            }
+            WriteCall::Send => host::send(*self, f.input, output, f.at()),
+            WriteCall::Acknowledge | WriteCall::Credit => return None,
         };
-        *self = sent.session;
-        Answer::wrote(refusal_of(sent.refusal), sent.next, f.at(), sent.count)
+        *self = done.session;
+        Some(done.answer)
     }
 
-    fn receive(&mut self, f: Frame<'_>, stage: &mut [u8]) -> Answer {
-        let received = if f.thin {
+    fn receive(&mut self, f: Frame<'_>, stage: &mut [u8]) -> Result<Received<HostEvent>, Error> {
+        let done = if f.thin {
             receive_once(*self, f.input, stage)
         } else {
             host::receive(*self, f.input, stage)
         };
-        *self = received.session;
-        let place = received.place;
-        Answer {
-            event: number(received.event),
-            place: matches!(received.event, HostEvent::Data).then_some(place),
-            refusal: refusal_of(received.refusal),
-            count: received.consumed as u64,
-            identity: Some(received.identity),
-            payload: Part::Payload {
-                place,
-                stage: Self::STAGE,
-                length: received.length,
-            },
-            ..Answer::default()
-        }
+        *self = done.session;
+        done.answer
     }
 
-    fn disconnect(&mut self) -> Answer {
-        let closed = host::disconnect(*self);
-        *self = closed.session;
-        Answer::refused(refusal_of(closed.refusal))
+    fn disconnect(&mut self) -> Result<(), Error> {
+        let done = host::disconnect(*self);
+        *self = done.session;
+        done.answer
     }
 
-    fn asks(&self) -> Answer {
-        let asked = host::state(*self);
-        Answer {
-            event: asked.state.number(),
-            refusal: refusal_of(asked.refusal),
-            next: host::needed(*self).count as u64,
-            identity: host::identity(*self).identity,
+    fn asks(&self) -> Result<Answer, Error> {
+        Ok(Answer {
+            event: host::state(*self)?.number(),
+            next: host::needed(*self)? as u64,
+            identity: host::identity(*self)?,
             ..Answer::default()
-        }
+        })
     }
 
     fn set_sequences(&mut self, send: Sequence, due: Sequence) {

@@ -11,7 +11,6 @@ mod frames;
 mod guest_calls;
 mod host_calls;
 mod operations;
-mod options;
 mod outer_calls;
 mod parser_calls;
 mod plain;

@@ -2,9 +2,9 @@
 use crate::answer::{Answer, Part, State, area};
 use crate::frames::{AREA, Frame};
 use crate::operations::ParserCall;
-use crate::options::{completed, refusal_of};
-use parser::{RecordParser, payload, push};
+use parser::{Complete, RecordParser, payload, push};
 use session::identity_in;
+use wire::errors::Error;
 
 // Where the stage stands in the memory.
 const STAGE: usize = 2 * AREA;
@@ -12,11 +12,15 @@ const STAGE: usize = 2 * AREA;
 fn push(parser: &mut RecordParser, f: Frame<'_>, memory: &mut [u8]) -> Answer {
     let pushed = push::push(*parser, f.input, f.stage(memory, STAGE));
     *parser = pushed.parser;
-    let count = pushed.consumed as u64;
-    let Some((record, place)) = completed(pushed) else {
+    let progress = match pushed.answer {
+        Ok(progress) => progress,
+        Err(error) => return Answer::from(error),
+    };
+    let count = progress.consumed as u64;
+    let Some(Complete { record, place }) = progress.complete else {
         return Answer {
             count,
-            ..Answer::refused(refusal_of(pushed.refusal))
+            ..Answer::default()
         };
     };
     let bytes = payload(f.input, area(memory, STAGE), place, record.length);
@@ -40,13 +44,12 @@ fn push(parser: &mut RecordParser, f: Frame<'_>, memory: &mut [u8]) -> Answer {
 }
 
 // buffered and needed.
-fn asks(parser: RecordParser) -> Answer {
-    let buffered = parser.buffered();
-    Answer {
-        count: buffered.count as u64,
-        next: parser.needed().count as u64,
-        ..Answer::refused(refusal_of(buffered.refusal))
-    }
+fn asks(parser: RecordParser) -> Result<Answer, Error> {
+    Ok(Answer {
+        count: parser.buffered()? as u64,
+        next: parser.needed()? as u64,
+        ..Answer::default()
+    })
 }
 
 // Runs a call. Its answer shows the parser.
@@ -62,7 +65,10 @@ pub fn turn(
             *parser = RecordParser::new();
             Answer::default()
         }
-        ParserCall::Asks => asks(*parser),
+        ParserCall::Asks => match asks(*parser) {
+            Ok(answer) => answer,
+            Err(error) => Answer::from(error),
+        },
     };
     Answer {
         state: State::Parser(*parser),

@@ -5,14 +5,12 @@ use crate::operations::PlainCall;
 use crate::outer_calls::{decode_header, decoded, encode_outer, encoded};
 use crate::record_calls::{encode_record, error_asks, type_asks};
 use outer::payloads;
+use session::Sent;
 use wire::errors::Error;
 
 // The answer of an encoder.
 fn wrote(written: Result<usize, Error>, at: usize) -> Answer {
-    match written {
-        Ok(next) => Answer::wrote(None, next, at, 0),
-        Err(error) => Answer::from(error),
-    }
+    Answer::wrote(written.map(|next| Sent { count: 0, next }), at)
 }
 
 // A part of the memory, as the answer's payload.
