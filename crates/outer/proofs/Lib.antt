@@ -1,4 +1,1 @@
-pub mod Writes
-pub mod Cases
 pub mod RoundTrips
-pub mod PayloadsCases

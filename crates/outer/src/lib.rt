@@ -16,7 +16,9 @@ use wire::{Epoch, Sequence, fields};
 pub const OUTER_HEADER_LEN: usize = 44;
 // Largest payload of one outer record.
 pub const OUTER_MAX_PAYLOAD: usize = 65536;
-// Decoded outer record header.
+
+// Decoded outer record header. The Rust has both: this one with the type's byte, and `record`'s Record,
+// of the same fields, with a RecordType.
 #[derive(Clone, Copy, Debug, PartialEq, Eq)]
 pub struct OuterHeader {
     pub record_type: u8,
@@ -28,6 +30,7 @@ pub struct OuterHeader {
 
 // Writes a record at a position of the output, or nothing where it does not fit (22), and gives the
 // position after it.
+#[tactic(auto, using(std::proofs::lemmas::Bool::Decides::nat_tests, std::proofs::lemmas::Grind::common_steps, wire::proofs::Overlays::copied_fits, wire::proofs::Overlays::length_overlay, wire::proofs::Overlays::overlay_next), unfolding(wire::specs::Refusals::first, crate::specs::Outer::put_record, crate::specs::Outer::write))]
 pub fn put_record(
     header: [u8; 44],
     payload: &[u8],
@@ -46,6 +49,7 @@ pub fn put_record(
 }
 
 // Encodes one outer record at a position of the output.
+#[tactic(auto, using(std::proofs::lemmas::Bool::Decides::nat_tests, std::proofs::lemmas::Grind::common_steps, wire::proofs::Headers::header_length), unfolding(wire::specs::Refusals::first, crate::specs::Outer::put_record, crate::specs::Outer::encode_outer, crate::specs::Outer::write))]
 pub fn encode_outer(
     record_type: u8,
     instance_id: [u8; 16],
@@ -76,6 +80,7 @@ pub fn is_outer(header: &[u8; 44]) -> bool
 }
 
 // The fields of a header's bytes.
+#[tactic(auto, unfolding(crate::specs::Outer::header_of))]
 fn header_of(header: &[u8; 44]) -> OuterHeader
     ensures { result ≡ header_of header.now }
 {
@@ -89,6 +94,7 @@ fn header_of(header: &[u8; 44]) -> OuterHeader
 }
 
 // Decodes and validates an outer record header.
+#[tactic(auto, using(std::proofs::lemmas::Bool::Decides::nat_tests), unfolding(wire::specs::Refusals::first, crate::specs::Outer::decode_outer_header, crate::specs::Outer::header_of))]
 pub fn decode_outer_header(header: [u8; 44]) -> Result<OuterHeader, Error>
     ensures { decoded_header result ≡ decode_outer_header header }
 {

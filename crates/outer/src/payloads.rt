@@ -1,4 +1,8 @@
 // The payloads of four bytes: the ack and credit pairs of the plain layer (outer.rs), and their limits.
+// The pairs are alike: the Rust has the four names, and each pair has its own test and its own error. A
+// shared body would take the test's answer and the error, which is no plainer.
+#![tactic(auto, using(wire::proofs::NumberLaws::written), unfolding(wire::specs::Refusals::first, crate::specs::Payloads::encode_payload, crate::specs::Payloads::decode_payload, crate::specs::Outer::number_in, crate::specs::Outer::value_of))]
+
 ghost use Rattle.std.specs.Prelude.{◌≡◌};
 ghost use Rattle.outer.specs.Outer.{window_ok, credit_ok, number_in, value_of};
 ghost use Rattle.outer.specs.Payloads.{encoded, decoded, encode_ack_payload, decode_ack_payload, encode_credit_payload, decode_credit_payload};
@@ -29,6 +33,7 @@ pub fn credit_ok(bytes: u32) -> bool
 }
 
 // The number of a four-byte ACK, CREDIT or ERROR payload, none where it is not four bytes.
+#[tactic(auto, using(std::proofs::lemmas::Bool::Decides::nat_tests, wire::proofs::NumberLaws::read_4, wire::proofs::NumberLaws::at_whole), unfolding(crate::specs::Outer::number_in))]
 pub fn number(payload: &[u8]) -> Option<u32>
     ensures { result ≡ number_in payload.now }
 {

@@ -1,17 +1,15 @@
--- The cases of types, lengths and error values, a law for each `return` of the code, and what the layers above use of them. Assumes nothing.
+-- Types and their codes, and lengths: what the code's proofs and the layers above use. Assumes nothing.
 use Prim.Native.Nat.{ℕ, ◌≤◌}
 use mathlib.Core.Path.{◌≡◌, refl, sym, ap, ◌∙◌}
 use mathlib.Core.Bool.{Bool, true, false, ◌||◌}
 use native.Mathlib.Omega.{arith}
 use Rattle.std.specs.Prelude.{Option, Some, None}
 use lib.Dec.{eqb, leb}
-use borrow.Author.Tests.{eqb-true, leb-true}
+use borrow.Author.Tests.{ne_eqb, eqb-true, leb-true}
 use Rattle.wire.proofs.Rows.{picked, and_right}
-use Rattle.record.specs.Types.{code_of, type_at, known, type_ok, length_ok, error_of}
+use Rattle.record.specs.Types.{code_of, type_at, known, type_ok, length_ok}
 use Rattle.record.specs.declared.types.RecordType.{RecordType}
 use Rattle.record.specs.declared.types.RecordType.TheVariants.{GuestAttach, HostAttach, Reset, Ack, Data, Wait, Ready, Error, Credit}
-use Rattle.record.specs.declared.types.ErrorCode.{ErrorCode}
-use Rattle.record.specs.declared.types.ErrorCode.TheVariants.{Authentication}
 
 -- a code that stands for a type is that type's
 module _ (n : ℕ) where
@@ -50,8 +48,9 @@ code_low t = ap known (code_type t)
 pub unknown_code : (n : ℕ) → type_at n ≡ None → type_ok n ≡ false
 unknown_code n e = ap known e
 
-pub only_error : (e : ErrorCode) → 1 ≡ error_of e
-only_error Authentication = refl
+-- the codes of two types differ
+pub other_code : (t u : RecordType) → (t ≡ u → ⊥) → eqb (code_of t) (code_of u) ≡ false
+other_code t u n = ne_eqb (code_of t) (code_of u) (λ e. n (cc (ap type_at e, code_type t, code_type u)))
 
 -- no length above the largest payload passes
 pub length_limit : (t n : ℕ) → length_ok t n ≡ true → n ≤ 65536

@@ -1,5 +1,7 @@
 // The checks on a record's fields: its length (5), a bootstrap record's zeros (6), and the value in
 // its payload (8, 9, 7).
+#![tactic(auto, unfolding(wire::specs::Refusals::first))]
+
 ghost use Rattle.std.specs.Prelude.{◌≡◌, ◌&&◌, [], ◌∷◌, eqb};
 ghost use Rattle.wire.specs.Refusals.{refusal, checked, first};
 ghost use Rattle.outer.specs.Outer.{window_ok, credit_ok};
@@ -12,6 +14,7 @@ use wire::errors::RecordError;
 use wire::{Epoch, Sequence};
 
 // Whether the 16 bytes are all zero.
+#[tactic(auto, using(crate::proofs::Cases::zeros))]
 pub fn all_zero(bytes: [u8; 16]) -> bool
     ensures { result ≡ all_zero bytes }
 {
@@ -53,6 +56,9 @@ fn zero_identity(instance_id: [u8; 16], epoch: Epoch, sequence: Sequence) -> boo
     all_zero(instance_id) && epoch.0 == 0 && sequence.0 == 0
 }
 
+// The checks of the three values are alike, each with its own test and its own error: a shared body would
+// take the test's answer and the error, which is no plainer.
+
 // Checks a window.
 fn check_window(window: u32) -> Result<(), RecordError>
     ensures { checked result ≡ first ((window_ok window, refusal 8 window 0 0) ∷ []) }
@@ -74,6 +80,7 @@ fn check_credit(bytes: u32) -> Result<(), RecordError>
 }
 
 // Checks an error value.
+#[tactic(auto, unfolding(wire::specs::Refusals::first, crate::specs::Types::error_at))]
 fn check_error(code: u32) -> Result<(), RecordError>
     ensures { checked result ≡ first ((eqb code 1, refusal 7 code 0 0) ∷ []) }
 {
@@ -84,6 +91,7 @@ fn check_error(code: u32) -> Result<(), RecordError>
 }
 
 // Checks the value of an ACK, CREDIT or ERROR payload.
+#[tactic(auto, using(crate::proofs::TypesCases::other_code), unfolding(wire::specs::Refusals::first, crate::specs::Record::payload_checks))]
 pub fn check_payload(record_type: RecordType, payload: &[u8]) -> Result<(), RecordError>
     ensures { checked result ≡ payload_checks (code_of record_type) payload.now }
 {

@@ -14,6 +14,7 @@ use wire::header::encode_header;
 use wire::{Epoch, Sequence, fields};
 
 // The fields of a header of a given type.
+#[tactic(auto, unfolding(crate::specs::Record::record_with))]
 fn record_with(header: &[u8; 44], record_type: RecordType) -> Record
     ensures { result ≡ record_with record_type header.now }
 {
@@ -36,6 +37,7 @@ pub fn record_of(header: &[u8; 44]) -> Record
 }
 
 // The checks that the encoder makes before 22: 5, 6, then 8, 9, 7.
+#[tactic(auto, using(wire::proofs::Rows::record_refuses), unfolding(wire::specs::Refusals::first, crate::specs::Record::payload_checks))]
 fn check_record(
     record_type: RecordType,
     instance_id: [u8; 16],
@@ -51,6 +53,7 @@ fn check_record(
 }
 
 // Validates one record, writes it at a position of the output, and gives the position after it.
+#[tactic(auto, using(std::proofs::lemmas::Bool::Decides::nat_tests, std::proofs::lemmas::Grind::common_steps, wire::proofs::Rows::record_refuses, crate::proofs::Cases::then_room, crate::proofs::Cases::length_fits, wire::proofs::Headers::header_length), unfolding(crate::specs::Record::encode_record, outer::specs::Outer::put_record, outer::specs::Outer::write))]
 pub fn encode_record(
     record_type: RecordType,
     instance_id: [u8; 16],

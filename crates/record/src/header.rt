@@ -13,6 +13,7 @@ use wire::fields;
 use wire::header::{OUTER_MAGIC, OUTER_VERSION};
 
 // The checks that follow the type's: 4, 5, 6.
+#[tactic(auto, using(std::proofs::lemmas::Bool::Decides::nat_tests, wire::proofs::Rows::record_refuses), unfolding(wire::specs::Refusals::first))]
 fn check_rest(header: &[u8; 44], record_type: RecordType) -> Result<(), RecordError>
     ensures { checked result ≡ first (rest_rows (code_of record_type) header.now) }
 {
@@ -31,6 +32,7 @@ fn check_rest(header: &[u8; 44], record_type: RecordType) -> Result<(), RecordEr
 
 // The header checks, 1 to 6. DATA, the most frequent type, is tested first. An unknown code leaves
 // with 3 before the flags are read.
+#[tactic(auto, using(std::proofs::lemmas::Bool::Decides::nat_tests, wire::proofs::Headers::magic_read, crate::proofs::TypesCases::known_code), unfolding(wire::specs::Refusals::first, crate::specs::Record::header_checks))]
 pub fn check_header(header: &[u8; 44]) -> Result<(), RecordError>
     ensures { checked result ≡ header_checks header.now }
 {
@@ -53,6 +55,7 @@ pub fn check_header(header: &[u8; 44]) -> Result<(), RecordError>
 }
 
 // Whether the header is one of DATA that passes the header checks.
+#[tactic(auto, using(std::proofs::lemmas::Bool::Decides::nat_tests), unfolding(wire::specs::Refusals::first, crate::specs::Record::header_checks, outer::specs::Outer::outer_ok, crate::specs::Types::type_at))]
 pub fn is_data(header: &[u8; 44]) -> bool
     ensures { result ≡ eqb (type_of header.now) 5 && passes (header_checks header.now) }
 {

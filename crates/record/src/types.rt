@@ -28,7 +28,7 @@ pub enum ErrorCode {
 }
 
 impl RecordType {
-    // The type's code.
+    // The type's code, written out as 01 has it.
     pub fn code(self) -> u8
         ensures { result ≡ code_of self }
     {

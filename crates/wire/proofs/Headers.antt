@@ -1,88 +1,24 @@
 -- A header's 44 bytes: as the code builds them, and that they are the encoding of the fields read from them. Assumes nothing.
-use Prim.Native.Nat.{ℕ, ◌+◌, ◌-◌, ◌≤◌}
+use Prim.Native.Nat.{ℕ, ◌+◌, ◌≤◌}
 use mathlib.Core.Path.{◌≡◌, refl, sym, ap, subst, ◌∙◌}
 use mathlib.Core.List.{List, [], ◌∷◌, ◌++◌, append_assoc, append-nil}
 use native.Mathlib.Omega.{arith}
 use lib.ListN.{length, set, replicate, take, drop, length-append, length-set, length-take, length-drop}
-use lib.Seq.{take_at, drop_at}
 use Rattle.std.proofs.lemmas.List.{drop-replicate}
 use lib.Dec.{lit<}
-use Rattle.wire.specs.Bytes.{from_le, to_le, bytes_at, Octets, end, octet}
+use Rattle.wire.proofs.Overlays.{overlay_next, overlay_all}
+use Rattle.wire.specs.Bytes.{overlay, from_le, to_le, bytes_at, Octets, end, octet}
 use Rattle.wire.specs.Header.{magic, magic_of, version_of, type_of, flags_of, instance_of, epoch_of, sequence_of, length_of, header_bytes}
-use Rattle.std.specs.Int.{w32, from_le_bytes, bytes_low_first}
+use Rattle.std.specs.Int.{w32, from_le_bytes}
 use Rattle.wire.proofs.NumberLaws.{at_whole, at_octets, length_at, length_to, to_from, read_4, written}
-use borrow.Rule.Slice.PartMut.{put_mid}
 
--- one more part written behind the parts that stand there, zeros behind it
-part_written : (a b : List ℕ) (at k m : ℕ) → length a ≡ at → length b ≡ k → put_mid at k (a ++ replicate (k + m) 0) b ≡ (a ++ b) ++ replicate m 0
-part_written a b at k m la lb =
-    let t : take at (a ++ replicate (k + m) 0) ≡ a = take_at a (replicate (k + m) 0) at la in
-    let d : drop at (a ++ replicate (k + m) 0) ≡ replicate (k + m) 0 = drop_at a (replicate (k + m) 0) at la in
-    let n : k + m - k ≡ m = omega arith in
-    rw (t, d, drop-replicate {X = ℕ} k (k + m) 0, n) (sym (append_assoc a b (replicate m 0)))
+-- ---- a header as the code writes it: each part laid behind those that stand there
+pub laid_behind : (d a b : List ℕ) (n : ℕ) → n ≡ length a → n + length b ≤ length d → overlay (overlay d 0 a) n b ≡ overlay d 0 (a ++ b)
+laid_behind d a b n e h = let q : n ≡ 0 + length a = omega arith in rw q (overlay_next d 0 a b (simp length-append (omega arith)))
 
--- the room that is left behind the epoch, and behind the sequence
-length_written : (d : List ℕ) (at k : ℕ) (s : List ℕ) → at + k ≤ length d → length s ≡ k → length (put_mid at k d s) ≡ length d
-length_written d at k s h e = simp (length-append, length-take, length-drop) (omega arith)
+pub ruleset writing = (laid_behind, overlay_all, written, length-append, append_assoc)
 
-module _ (t : ℕ) (m v i e : List ℕ) (lm : length m ≡ 4) (lv : length v ≡ 2) (li : length i ≡ 16) (le : length e ≡ 8) where
-  length_as_far_as_epoch : length (put_mid 24 8 (put_mid 8 16 (set (put_mid 4 2 (m ++ replicate 40 0) v) 6 t) i) e) ≡ 44
-  length_as_far_as_epoch =
-      let z : List ℕ = replicate 40 0 in
-      let l₀ : length (m ++ z) ≡ 44 = simp length-append (omega arith) in
-      let l₁ : length (put_mid 4 2 (m ++ z) v) ≡ 44 = length_written (m ++ z) 4 2 v (omega arith) lv ∙ l₀ in
-      let l₂ : length (set (put_mid 4 2 (m ++ z) v) 6 t) ≡ 44 = length-set (put_mid 4 2 (m ++ z) v) 6 t ∙ l₁ in
-      let l₃ = length_written (set (put_mid 4 2 (m ++ z) v) 6 t) 8 16 i (omega arith) li ∙ l₂ in
-      length_written (put_mid 8 16 (set (put_mid 4 2 (m ++ z) v) 6 t) i) 24 8 e (omega arith) le ∙ l₃
-
-  pub room_behind_epoch : 40 ≤ length (put_mid 24 8 (put_mid 8 16 (set (put_mid 4 2 (m ++ replicate 40 0) v) 6 t) i) e)
-  room_behind_epoch = omega (arith, length_as_far_as_epoch)
-
-  pub room_behind_sequence : (s : List ℕ) → length s ≡ 8 → 44 ≤ length (put_mid 32 8 (put_mid 24 8 (put_mid 8 16 (set (put_mid 4 2 (m ++ replicate 40 0) v) 6 t) i) e) s)
-  room_behind_sequence s ls =
-      let h : List ℕ = put_mid 24 8 (put_mid 8 16 (set (put_mid 4 2 (m ++ replicate 40 0) v) 6 t) i) e in
-      let w : length h ≡ 44 = length_as_far_as_epoch in
-      omega (arith, length_written h 32 8 s (omega (arith, w)) ls ∙ w)
-
--- the parts of a header written one behind the other
-abbrev begun : ℕ → List ℕ
-begun t = magic ++ (1 ∷ 0 ∷ t ∷ 0 ∷ [])
-
-module _ (t epoch : ℕ) (m v i a e : List ℕ) (li : length i ≡ 16) (em : m ≡ magic) (ev : v ≡ bytes_low_first 0 2 1) (ea : a ≡ i) (ee : e ≡ bytes_low_first 0 8 epoch) where
-  le : length e ≡ 8
-  le = ap length ee
-
-  as_far_as_epoch : put_mid 24 8 (put_mid 8 16 (set (put_mid 4 2 (m ++ replicate 40 0) v) 6 t) a) e ≡ ((begun t ++ i) ++ e) ++ replicate 12 0
-  as_far_as_epoch =
-      let w : length (begun t ++ i) ≡ 24 = simp length-append (omega arith) in
-      let z : List ℕ = replicate 40 0 in
-      (λ j. put_mid 24 8 (put_mid 8 16 (set (put_mid 4 2 (em j ++ z) (ev j)) 6 t) (ea j)) e)
-      ∙ (λ j. put_mid 24 8 (part_written (begun t) i 8 16 20 refl li j) e)
-      ∙ part_written (begun t ++ i) e 24 8 12 w le
-
-  length_to_epoch : length ((begun t ++ i) ++ e) ≡ 32
-  length_to_epoch = simp length-append (omega (arith, li, le))
-
-  module _ (seq : ℕ) (s : List ℕ) (es : s ≡ bytes_low_first 0 8 seq) where
-    ls : length s ≡ 8
-    ls = ap length es
-
-    as_far_as_sequence : put_mid 32 8 (put_mid 24 8 (put_mid 8 16 (set (put_mid 4 2 (m ++ replicate 40 0) v) 6 t) a) e) s ≡ (((begun t ++ i) ++ e) ++ s) ++ replicate 4 0
-    as_far_as_sequence = ap (λ (h : List ℕ). put_mid 32 8 h s) as_far_as_epoch ∙ part_written ((begun t ++ i) ++ e) s 32 8 4 length_to_epoch ls
-
-    length_to_sequence : length (((begun t ++ i) ++ e) ++ s) ≡ 40
-    length_to_sequence = simp length-append (omega (arith, li, le, ls))
-
-    pub header_written : (size : ℕ) (n : List ℕ) → n ≡ bytes_low_first 0 4 size
-        → put_mid 40 4 (put_mid 32 8 (put_mid 24 8 (put_mid 8 16 (set (put_mid 4 2 (m ++ replicate 40 0) v) 6 t) a) e) s) n ≡ header_bytes t i epoch seq size
-    unfolding header_bytes to_le
-    header_written size n en =
-        let joined : ((((begun t ++ i) ++ e) ++ s) ++ n) ++ [] ≡ begun t ++ (i ++ (e ++ (s ++ n))) = simp (append-nil, append_assoc) in
-        ap (λ (h : List ℕ). put_mid 40 4 h n) as_far_as_sequence
-        ∙ part_written (((begun t ++ i) ++ e) ++ s) n 40 4 0 length_to_sequence (ap length en)
-        ∙ joined
-        ∙ (λ j. begun t ++ (i ++ ((ee ∙ sym (written 8 epoch)) j ++ ((es ∙ sym (written 8 seq)) j ++ (en ∙ sym (written 4 size)) j))))
-
+-- its length
 pub header_length : (t : ℕ) (i : List ℕ) (e s n : ℕ) → length i ≡ 16 → length (header_bytes t i e s n) ≡ 44
 unfolding header_bytes
 header_length t i e s n l = simp length-append (omega (arith, l, length_to 2 1, length_to 8 e, length_to 8 s, length_to 4 n))

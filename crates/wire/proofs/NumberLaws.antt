@@ -69,9 +69,6 @@ read_8 bs e = all_bytes bs 7 e
 
 pub ruleset reading = (at_part, read_2, read_4, read_8)
 
-pub number_4 : (bs : List ℕ) (v : ℕ) → length bs ≡ 4 → v ≡ from_le_bytes w32 bs → v ≡ from_le bs
-number_4 bs v l e = e ∙ sym (read_4 bs l)
-
 low_byte : (i v : ℕ) → v / 256 ^ i % 256 ≡ byte_at i v
 low_byte zero v = omega arith
 low_byte (suc i) v = refl

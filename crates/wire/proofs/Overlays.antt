@@ -34,6 +34,10 @@ module _ (d : List ℕ) (at : ℕ) (s : List ℕ) (h : at + length s ≤ length 
       let w : length (take at d) ≡ at = simp length-take (omega arith) in
       ap (take (length s)) (drop_at (take at d) (s ++ drop (at + length s) d) at w) ∙ take_at s (drop (at + length s) d) (length s) refl
 
+-- the same, of so many bytes
+pub take_laid : (d s : List ℕ) (at n : ℕ) → n ≡ at + length s → n ≤ length d → take n (overlay d at s) ≡ take at d ++ s
+take_laid d s at n e h = rw e (take_overlay d at s (omega arith))
+
 -- two lists side by side are one
 pub overlay_next : (d : List ℕ) (at : ℕ) (a b : List ℕ) → at + length (a ++ b) ≤ length d → overlay (overlay d at a) (at + length a) b ≡ overlay d at (a ++ b)
 unfolding overlay

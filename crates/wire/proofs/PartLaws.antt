@@ -1,24 +1,16 @@
 -- Parts of a slice up to its end, and copies of nothing and of all. Assumes nothing.
-use Prim.Native.Nat.{ℕ, ◌+◌, ◌-◌, ◌≤◌, min}
+use Prim.Native.Nat.{ℕ, ◌+◌, ◌-◌}
 use mathlib.Core.Path.{◌≡◌, ap, ◌∙◌}
 use mathlib.Core.List.{List, [], ◌++◌}
 use native.Mathlib.Omega.{arith}
-use native.Mathlib.Decide.{dec_le}
 use lib.ListN.{length, take, drop, length-drop, take-append-drop}
-use lib.Seq.{take-length, take_all}
+use lib.Seq.{take_all}
 use Rattle.wire.specs.Bytes.{overlay, copied}
 use Rattle.wire.proofs.Overlays.{copied_fits, overlay_all}
 
 -- a part up to the end, as the code takes it
 pub part_end : (n : ℕ) (l : List ℕ) → take (length l - n) (drop n l) ≡ drop n l
 part_end n l = take_all (length l - n) (drop n l) (simp length-drop (omega arith))
-
-pub take_min : (n : ℕ) (l : List ℕ) → take (min n (length l)) l ≡ take n l
-take_min n l = go (dec_le n (length l))
-  where
-    go : Dec (n ≤ length l) → take (min n (length l)) l ≡ take n l
-    go (yes h) = let e : min n (length l) ≡ n = omega arith in rw e
-    go (no h) = let e : min n (length l) ≡ length l = omega arith in rw e (rw (take-length, take_all n l (omega arith)))
 
 -- nothing laid over a list leaves it
 pub overlay_nothing : (d : List ℕ) (i : ℕ) → overlay d i [] ≡ d

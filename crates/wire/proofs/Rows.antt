@@ -2,9 +2,9 @@
 use mathlib.Core.Path.{◌≡◌, refl, sym, ap, ◌∙◌}
 use mathlib.Core.Bool.{Bool, true, false, ◌&&◌}
 use mathlib.Core.List.{List, [], ◌∷◌, ◌++◌}
-use Rattle.std.specs.Prelude.{ℕ, eqb, Result, Ok, Err, is_ok}
+use Rattle.std.specs.Prelude.{ℕ, eqb}
 use borrow.Author.Tests.{eqb-false}
-use Rattle.wire.specs.Refusals.{pick, none, record_refusal, refusal_of, checked, first, passes}
+use Rattle.wire.specs.Refusals.{pick, record_refusal, refusal_of, first, passes}
 use Rattle.wire.specs.declared.errors.RecordError.{RecordError}
 use Rattle.wire.specs.declared.errors.RecordError.TheVariants.{Magic, Version, «Type», Flags, Length, BootstrapIdentity, ErrorCode, ReceiveWindow, Credit}
 use Rattle.wire.specs.declared.errors.Error.{Error}
@@ -35,11 +35,6 @@ unfolding first
 pass_all [] p = refl
 pass_all (row ∷ rows) p = rw p.0 (pass_all rows p.1)
 
-pub none_stops : (rows : List (Bool × Refusal)) → Passed rows → none ≡ first rows
-unfolding first
-none_stops [] p = refl
-none_stops (row ∷ rows) p = rw p.0 (none_stops rows p.1)
-
 pub and_left : (a b : Bool) → a && b ≡ true → a ≡ true
 and_left true b e = refl
 and_left false b e = e
@@ -61,36 +56,15 @@ pub refuses : (e : Error) → passes (refusal_of e) ≡ false
 refuses = elim [ «Record» e ↦ record_refuses e | Unexpected a ↦ refl | MissingIdentity a ↦ refl | Instance a b ↦ refl | Epoch a b ↦ refl | StaleEpoch a b ↦ refl | Sequence a b ↦ refl | SequenceOverflow a ↦ refl | Window a b c ↦ refl | Uncovered a b ↦ refl | Truncated a ↦ refl | InvalidState ↦ refl | ShortStage ↦ refl | ShortOutput ↦ refl | Unsound ↦ refl | OuterPayload ↦ refl | OuterHeader ↦ refl | OuterLength ↦ refl | AckPayload ↦ refl | CreditPayload ↦ refl | PayloadLength ↦ refl ]
 
 -- ---- code that goes through rows
--- a row's test fails, or holds and the rest decide
-pub row_stops : (t : Bool) (r x : Refusal) (rows : List (Bool × Refusal)) → t ≡ false → x ≡ r → x ≡ first ((t, r) ∷ rows)
-unfolding first
-row_stops t r x rows e q = rw e q
-
+-- a row's test holds, and the rest decide
 pub row_passes : (t : Bool) (r x : Refusal) (rows : List (Bool × Refusal)) → t ≡ true → x ≡ first rows → x ≡ first ((t, r) ∷ rows)
 unfolding first
 row_passes t r x rows e q = rw e q
 
-pub no_rows : (x : Refusal) → x ≡ none → x ≡ first []
-unfolding first
-no_rows x e = e
-
--- rows that another function went through: it refused, or it passed and the rest decide
-pub rows_stop : (front back : List (Bool × Refusal)) (x : Refusal) → x ≡ first front → (x.number ≡ 0 → ⊥) → x ≡ first (front ++ back)
-unfolding first
-rows_stop [] back x e n = absurd (n (ap (λ (r : Refusal). r.number) e))
-rows_stop (row ∷ front) back x e n = go row.0 refl e (rows_stop front back x)
-  where
-    go : (t : Bool) → row.0 ≡ t → x ≡ pick t (first front) row.1 → (x ≡ first front → (x.number ≡ 0 → ⊥) → x ≡ first (front ++ back)) → x ≡ pick t (first (front ++ back)) row.1
-    go true q p k = k p n
-    go false q p k = p
-
 pub numbered : (e : Error) → (refusal_of e).number ≡ 0 → ⊥
 numbered e z = let k : true ≡ false = sym (ap (λ (n : ℕ). eqb n 0) z) ∙ refuses e in cc
 
--- the same of a check's answer: an error stops the operation, and else the rest decide
-pub error_stops : (front back : List (Bool × Refusal)) (e : Error) → refusal_of e ≡ first front → refusal_of e ≡ first (front ++ back)
-error_stops front back e q = rows_stop front back (refusal_of e) q (numbered e)
-
+-- rows that another function went through: they passed, and the rest decide
 pub rows_pass : (front back : List (Bool × Refusal)) (x y : Refusal) → Numbered front → x ≡ first front → x.number ≡ 0 → y ≡ first back → y ≡ first (front ++ back)
 unfolding first
 rows_pass [] back x y m e n q = q
@@ -100,17 +74,10 @@ rows_pass (row ∷ front) back x y m e n q = go row.0 refl e (λ p. rows_pass fr
     go true h p k = k p
     go false h p k = absurd (eqb-false row.1.number 0 m.0 (ap (λ (r : Refusal). r.number) (sym p) ∙ n))
 
-pub check_passes : (front back : List (Bool × Refusal)) (y : Refusal) → Numbered front → none ≡ first front → y ≡ first back → y ≡ first (front ++ back)
-check_passes front back y m e q = rows_pass front back none y m e refl q
-
--- a check of one row
-pub row_refuses : (t b : Bool) (r : Refusal) → b ≡ t → b ≡ false → r ≡ first ((t, r) ∷ [])
-row_refuses t b r eb e = row_stops t r r [] (sym eb ∙ e) refl
-
-pub row_accepts : (t b : Bool) (r : Refusal) → b ≡ t → b ≡ true → none ≡ first ((t, r) ∷ [])
-row_accepts t b r eb e = row_passes t r none [] (sym eb ∙ e) (no_rows none refl)
-
--- whether a check passes
-pub ok_passes : (x : Result (Unit {0}) RecordError) → is_ok x ≡ passes (checked x)
-ok_passes (Ok u) = refl
-ok_passes (Err e) = sym (record_refuses e)
+-- rows after others: the first refuse, or the rest decide
+pub first_append : (front back : List (Bool × Refusal)) → Numbered front → first (front ++ back) ≡ pick (passes (first front)) (first back) (first front)
+unfolding first
+first_append [] back m = refl
+first_append (row ∷ front) back m =
+    picked (λ (r : Refusal). pick row.0 (first (front ++ back)) row.1 ≡ pick (passes r) (first back) r) row.0
+    (λ q. rw q (first_append front back m.1)) (λ q. rw (q, m.0))

@@ -1,5 +1,6 @@
 // What stops an operation (01, "What stops each operation"), by the Rust's names where it has one, and
-// 01's record of each. Types are by their codes.
+// 01's record of each. Five variants carry a record's type, and by its code: this crate lies below
+// `record`, where RecordType is.
 ghost use Rattle.std.specs.Prelude.{◌≡◌};
 ghost use Rattle.wire.specs.Refusals.{record_refusal, refusal_of};
 ghost use Rattle.wire.specs.declared.errors.Error.TheVariants.{Record};
@@ -80,18 +81,18 @@ impl From<RecordError> for Refusal {
 
     fn from(error: RecordError) -> Refusal {
         match error {
-            RecordError::Magic(magic) => Refusal::new(1, magic as u64, 0, 0),
-            RecordError::Version(version) => Refusal::new(2, version as u64, 0, 0),
-            RecordError::Type(code) => Refusal::new(3, code as u64, 0, 0),
-            RecordError::Flags(flags) => Refusal::new(4, flags as u64, 0, 0),
+            RecordError::Magic(magic) => Refusal::new(1, magic.into(), 0, 0),
+            RecordError::Version(version) => Refusal::new(2, version.into(), 0, 0),
+            RecordError::Type(code) => Refusal::new(3, code.into(), 0, 0),
+            RecordError::Flags(flags) => Refusal::new(4, flags.into(), 0, 0),
             RecordError::Length {
                 record_type,
                 length,
-            } => { Refusal::new(5, record_type as u64, length as u64, 0) }
-            RecordError::BootstrapIdentity(code) => Refusal::new(6, code as u64, 0, 0),
-            RecordError::ErrorCode(value) => Refusal::new(7, value as u64, 0, 0),
-            RecordError::ReceiveWindow(window) => Refusal::new(8, window as u64, 0, 0),
-            RecordError::Credit(bytes) => Refusal::new(9, bytes as u64, 0, 0),
+            } => { Refusal::new(5, record_type.into(), length as u64, 0) }
+            RecordError::BootstrapIdentity(code) => Refusal::new(6, code.into(), 0, 0),
+            RecordError::ErrorCode(value) => Refusal::new(7, value.into(), 0, 0),
+            RecordError::ReceiveWindow(window) => Refusal::new(8, window.into(), 0, 0),
+            RecordError::Credit(bytes) => Refusal::new(9, bytes.into(), 0, 0),
         }
     }
 }
@@ -102,8 +103,8 @@ impl From<Error> for Refusal {
     fn from(error: Error) -> Refusal {
         match error {
             Error::Record(error) => Refusal::from(error),
-            Error::Unexpected(code) => Refusal::new(10, code as u64, 0, 0),
-            Error::MissingIdentity(code) => Refusal::new(11, code as u64, 0, 0),
+            Error::Unexpected(code) => Refusal::new(10, code.into(), 0, 0),
+            Error::MissingIdentity(code) => Refusal::new(11, code.into(), 0, 0),
             Error::Instance { expected, actual } => Refusal {
                 expected,
                 actual,
@@ -112,14 +113,14 @@ impl From<Error> for Refusal {
             Error::Epoch { expected, actual } => Refusal::new(13, expected, actual, 0),
             Error::StaleEpoch { current, actual } => Refusal::new(14, current, actual, 0),
             Error::Sequence { expected, actual } => Refusal::new(15, expected, actual, 0),
-            Error::SequenceOverflow(code) => Refusal::new(16, code as u64, 0, 0),
+            Error::SequenceOverflow(code) => Refusal::new(16, code.into(), 0, 0),
             Error::Window {
                 window,
                 outstanding,
                 length,
-            } => Refusal::new(17, window as u64, outstanding as u64, length as u64),
+            } => Refusal::new(17, window.into(), outstanding.into(), length as u64),
             Error::Uncovered { outstanding, bytes } => {
-                Refusal::new(18, outstanding as u64, bytes as u64, 0)
+                Refusal::new(18, outstanding.into(), bytes.into(), 0)
             }
             Error::Truncated { buffered } => Refusal::new(19, buffered as u64, 0, 0),
             Error::InvalidState => Refusal::new(20, 0, 0, 0),

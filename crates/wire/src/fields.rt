@@ -1,4 +1,5 @@
-// The fields of a header's 44 bytes, each read at its place.
+// The fields of a header's 44 bytes, each read at its place. The readers are alike: each has its
+// field's name and type, as in the Rust, over one `field`.
 #![tactic(auto, using(crate::proofs::NumberLaws::reading), unfolding(crate::specs::Header::magic_of, crate::specs::Header::version_of, crate::specs::Header::type_of, crate::specs::Header::flags_of, crate::specs::Header::instance_of, crate::specs::Header::epoch_of, crate::specs::Header::sequence_of, crate::specs::Header::length_of,))]
 
 ghost use Rattle.std.specs.Prelude.{◌≡◌, ◌+◌, ◌≤◌};
