@@ -8,7 +8,7 @@ pub mod push;
 ghost use Rattle.std.specs.Prelude.{◌≡◌, ◌&&◌, eqb, ltb, ◌+◌};
 ghost use Rattle.wire.specs.Header.{length_of};
 ghost use Rattle.wire.specs.Refusals.{refused, verdict, first};
-ghost use Rattle.parser.specs.Push.{fresh, counts_ok, error_ok, sound_parser, clear, payload_at, needed_of, buffered_of, count_of, counted, end_rows};
+ghost use Rattle.parser.specs.Push.{fresh, counts_ok, error_ok, sound_parser, latched, clear, payload_at, needed_of, buffered_of, count_of, counted, end_rows};
 
 use outer::OUTER_HEADER_LEN;
 use record::Record;
@@ -18,7 +18,8 @@ use wire::fields;
 use wire::parts::part;
 
 // The record in progress: its header bytes beside the counts of header and payload bytes that have
-// come, and the error that ended the stream.
+// come (01's form: "parser struct holds the 44-byte header array beside its counts, passed by value"),
+// and the error that ended the stream.
 #[derive(Clone, Copy)]
 pub struct RecordParser {
     pub header: [u8; 44],
@@ -67,14 +68,11 @@ fn counts_ok(header: &[u8; 44], header_len: usize, payload_len: usize) -> bool
 }
 
 // Whether a latched error, one of 1 to 9, goes with count 0.
-#[tactic(auto, using(crate::proofs::Cases::error_none, crate::proofs::Cases::error_some))]
+#[tactic(auto, using(std::proofs::lemmas::Bool::Decides::nat_tests, crate::proofs::Latches::low), unfolding(crate::specs::Push::error_ok))]
 fn error_ok(error: Option<RecordError>, header_len: usize) -> bool
     ensures { result ≡ error_ok (refused error).number header_len }
 {
-    match error {
-        Some(_) => header_len == 0,
-        None => true,
-    }
+    error.is_none() || header_len == 0
 }
 
 impl RecordParser {
@@ -95,9 +93,18 @@ impl RecordParser {
     pub fn is_sound(self) -> bool
         ensures { result ≡ sound_parser self }
     {
-        let header = self.header;
-        counts_ok(&header, self.header_len, self.payload_len)
+        counts_ok(&self.header, self.header_len, self.payload_len)
             && error_ok(self.error, self.header_len)
+    }
+
+    // The error that the parser latched: what a push of it answers again.
+    pub fn latched(self) -> Result<(), Error>
+        ensures { verdict result ≡ latched self }
+    {
+        match self.error {
+            Some(error) => Err(Error::Record(error)),
+            None => Ok(()),
+        }
     }
 
     // Whether the parser is sound with no error, and a header that it holds is one of DATA: the
@@ -112,8 +119,7 @@ impl RecordParser {
         if self.header_len != OUTER_HEADER_LEN {
             return self.header_len < OUTER_HEADER_LEN && self.payload_len == 0;
         }
-        let header = self.header;
-        is_data(&header) && self.payload_len < fields::length(&header) as usize
+        is_data(&self.header) && self.payload_len < fields::length(&self.header) as usize
     }
 
     // Whether so many bytes more leave the payload in progress unfinished. The push of such a piece
@@ -121,13 +127,12 @@ impl RecordParser {
     pub fn stays_open(self, count: usize) -> bool
         ensures { result ≡ eqb self.header_len 44 && ltb (self.payload_len + count) (length_of self.header) }
     {
-        let header = self.header;
-        let size = fields::length(&header) as usize;
+        let size = fields::length(&self.header) as usize;
         self.header_len == OUTER_HEADER_LEN && count < size.saturating_sub(self.payload_len)
     }
 
     // How many more bytes complete the header or the payload in progress.
-    #[tactic(auto, using(std::proofs::lemmas::Bool::Decides::nat_tests, crate::proofs::Cases::soundly), unfolding(crate::specs::Push::counted, crate::specs::Push::needed_of))]
+    #[tactic(auto, using(std::proofs::lemmas::Bool::Decides::nat_tests), unfolding(crate::specs::Push::counted, crate::specs::Push::needed_of, crate::specs::Push::sound_parser, crate::specs::Push::counts_ok))]
     pub fn needed(self) -> Result<usize, Error>
         ensures { count_of result ≡ counted self (needed_of self) }
     {
@@ -137,12 +142,11 @@ impl RecordParser {
         if self.header_len != OUTER_HEADER_LEN {
             return Ok(OUTER_HEADER_LEN - self.header_len);
         }
-        let header = self.header;
-        Ok(fields::length(&header) as usize - self.payload_len)
+        Ok(fields::length(&self.header) as usize - self.payload_len)
     }
 
     // The bytes of the partial record that the parser holds.
-    #[tactic(auto, using(std::proofs::lemmas::Bool::Decides::nat_tests, crate::proofs::Cases::sound_total), unfolding(crate::specs::Push::counted))]
+    #[tactic(auto, using(std::proofs::lemmas::Bool::Decides::nat_tests, crate::proofs::Cases::length_low), unfolding(crate::specs::Push::counted, crate::specs::Push::sound_parser, crate::specs::Push::counts_ok))]
     pub fn buffered(self) -> Result<usize, Error>
         ensures { count_of result ≡ counted self (buffered_of self) }
     {
@@ -153,6 +157,7 @@ impl RecordParser {
     }
 
     // What the end of the stream finds: 23, or 19 with bytes of an unfinished record.
+    #[tactic(auto, using(std::proofs::lemmas::Bool::Decides::nat_tests, wire::proofs::Rows::numbered), unfolding(wire::specs::Refusals::first, crate::specs::Push::counted))]
     pub fn ended(self) -> Result<(), Error>
         ensures { verdict result ≡ first (end_rows self) }
     {

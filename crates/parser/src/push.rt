@@ -1,13 +1,13 @@
 // An incremental parser's push: bytes come in pieces of any size, and each record is handed over
 // with its last byte. Payload bytes that come in several pushes lie in a stage that the caller lends.
-ghost use Rattle.std.specs.Prelude.{◌≡◌, true, eqb, ◌+◌, ◌^◌, ◌≤◌, ◌<◌, length, take, drop};
+ghost use Rattle.std.specs.Prelude.{◌≡◌, true, eqb, ◌+◌, ◌^◌, ◌≤◌, ◌<◌, length, take};
 ghost use Rattle.wire.specs.Bytes.{copied};
 ghost use Rattle.wire.specs.Refusals.{record_refusal, verdict, pick, first, passes};
 ghost use Rattle.wire.specs.Header.{length_of};
 ghost use Rattle.record.specs.Record.{header_checks};
-ghost use Rattle.parser.specs.Push.{waiting, failed, completed, finish, push_body, body_stage, head_with, push_head, head_stage, push_rows, push_of, pushed, outcome};
+ghost use Rattle.parser.specs.Push.{waiting, failed, finish, push_body, body_stage, head_with, push_head, head_stage, push_rows, push_of, pushed, outcome};
 
-use crate::{Complete, Place, Progress, Pushed, RecordParser};
+use crate::{Complete, Place, Progress, Pushed, RecordParser, payload};
 use outer::{OUTER_HEADER_LEN, OUTER_MAX_PAYLOAD};
 use record::checks::check_payload;
 use record::codec::record_of;
@@ -15,7 +15,7 @@ use record::header::check_header;
 use wire::copying::copy_at;
 use wire::errors::{Error, RecordError};
 use wire::fields;
-use wire::parts::{filled, part};
+use wire::parts::filled;
 
 // No record yet.
 fn wait(header: [u8; 44], header_len: usize, payload_len: usize, consumed: usize) -> Pushed
@@ -51,32 +51,26 @@ fn fail(header: [u8; 44], error: RecordError) -> Pushed
     }
 }
 
-// A record is complete.
-fn complete(header: [u8; 44], consumed: usize, place: Place) -> Pushed
-    ensures { pushed result ≡ completed header consumed place }
-{
-    let record = record_of(&header);
-    Pushed {
-        answer: Ok(Progress {
-            consumed,
-            complete: Some(Complete { record, place }),
-        }),
-        parser: RecordParser {
-            header,
-            header_len: 0,
-            payload_len: 0,
-            error: None,
-        },
-    }
-}
-
 // The payload is whole: 8, 9, 7, or the record.
+#[tactic(auto, using(wire::proofs::Rows::record_refuses, crate::proofs::Cases::type_code), unfolding(crate::specs::Push::finish))]
 fn finished(header: [u8; 44], payload: &[u8], consumed: usize, place: Place) -> Pushed
     requires { passes (header_checks header) ≡ true }
     ensures { pushed result ≡ (finish header payload.now consumed place).answer }
 {
-    match check_payload(record_of(&header).record_type, payload) {
-        Ok(()) => complete(header, consumed, place),
+    let record = record_of(&header);
+    match check_payload(record.record_type, payload) {
+        Ok(()) => Pushed {
+            answer: Ok(Progress {
+                consumed,
+                complete: Some(Complete { record, place }),
+            }),
+            parser: RecordParser {
+                header,
+                header_len: 0,
+                payload_len: 0,
+                error: None,
+            },
+        },
         Err(error) => fail(header, error),
     }
 }
@@ -101,19 +95,12 @@ fn place_of(before: usize, from: usize) -> Place
     Place::Piece(from)
 }
 
-// The bytes of a whole payload.
-fn whole<'a>(before: usize, last: &'a [u8], stage: &'a [u8], size: usize) -> &'a [u8]
-    ensures { result.now ≡ pick (eqb before 0) (take size (drop 0 last.now)) (take size (drop 0 stage.now)) }
-{
-    if before != 0 {
-        return part(stage, 0, size);
-    }
-    part(last, 0, size)
-}
-
 // The payload step: `before` bytes of the payload have come, and `rest` is the piece from its index
 // `from` on. What holds of stage and counts is a condition of each step, since both are the caller's
-// (01: any lengths, any session value), so that no type can have it.
+// (01: any lengths, any session value). An array of the stage's first 65,536 bytes would carry its
+// length, but each rule speaks of the whole stage, so that each would need a law about the bytes
+// behind: no plainer. The index's is that `rest` is `piece[from..]`, whose end fits.
+#[tactic(auto, using(std::proofs::lemmas::Bool::Decides::nat_tests, crate::proofs::Cases::length_low, wire::proofs::Overlays::copied_fits, wire::proofs::Overlays::take_laid), unfolding(crate::specs::Push::push_body, crate::specs::Push::body_stage))]
 fn payload_step(
     header: [u8; 44],
     before: usize,
@@ -135,7 +122,8 @@ fn payload_step(
     }
     store_last(before, taken, stage);
     let place = place_of(before, from);
-    finished(header, whole(before, rest, stage, size), end, place)
+    let bytes = payload(rest, stage, place_of(before, 0), size);
+    finished(header, bytes, end, place)
 }
 
 // Byte 44 has come: the header checks, and the rest of the piece to the payload step. While a header
@@ -151,6 +139,7 @@ fn checked(header: [u8; 44], before: usize, rest: &[u8], from: usize, stage: &mu
 }
 
 // The header step.
+#[tactic(auto, using(std::proofs::lemmas::Bool::Decides::nat_tests, std::proofs::lemmas::Grind::common_steps, wire::proofs::Overlays::copied_fits), unfolding(crate::specs::Push::push_head, crate::specs::Push::head_stage, crate::specs::Push::head_with))]
 fn header_step(
     header: [u8; 44],
     had: usize,
@@ -171,6 +160,7 @@ fn header_step(
 }
 
 // What stops a push: 23, 21, or the latched error.
+#[tactic(auto, using(std::proofs::lemmas::Bool::Decides::nat_tests), unfolding(wire::specs::Refusals::first))]
 fn ready(parser: RecordParser, room: usize) -> Result<(), Error>
     ensures { verdict result ≡ first (push_rows parser room) }
 {
@@ -180,14 +170,12 @@ fn ready(parser: RecordParser, room: usize) -> Result<(), Error>
     if room < OUTER_MAX_PAYLOAD {
         return Err(Error::ShortStage);
     }
-    match parser.error {
-        Some(error) => Err(Error::Record(error)),
-        None => Ok(()),
-    }
+    parser.latched()
 }
 
 // Takes bytes of the piece up to the end of one record and no further. The stage holds payload
 // bytes that come in several pushes.
+#[tactic(auto, using(std::proofs::lemmas::Bool::Decides::nat_tests, wire::proofs::Rows::refuses, crate::proofs::Cases::sound_count, crate::proofs::Cases::sound_room), unfolding(wire::specs::Refusals::first, crate::specs::Push::push_of, crate::specs::Push::push, crate::specs::Push::push_stage))]
 pub fn push(parser: RecordParser, piece: &[u8], stage: &mut [u8]) -> Pushed
     ensures { outcome (pushed result) stage.new ≡ push_of parser piece.now stage.old }
 {
