@@ -1,5 +1,3 @@
-pub mod States
 pub mod Soundness
-pub mod Writing
 pub mod Calling
 pub mod Sending

@@ -7,7 +7,8 @@ use crate::{GuestSession, GuestState};
 use session::{Identity, asked};
 use wire::errors::Error;
 
-// The session's state.
+// The session's state. The host has this ask, `identity` and `needed` over its own session: three asks of six to
+// nine lines, against a trait of four members (soundness, state, identity, parser) and two impls.
 #[tactic(auto, unfolding(crate::specs::Asks::state_of))]
 pub fn state(session: GuestSession) -> Result<GuestState, Error>
     ensures { state_told result ≡ state_of session }
@@ -15,7 +16,7 @@ pub fn state(session: GuestSession) -> Result<GuestState, Error>
     asked(session.is_sound(), session.state)
 }
 
-// The identity that the session holds.
+// The identity that the session holds (why the host has its own: `state`).
 #[tactic(auto, unfolding(crate::specs::Asks::identity_of))]
 pub fn identity(session: GuestSession) -> Result<Option<Identity>, Error>
     ensures { identity_told result ≡ identity_of session }
@@ -28,10 +29,7 @@ pub fn identity(session: GuestSession) -> Result<Option<Identity>, Error>
 pub fn window(session: GuestSession) -> Result<Option<u32>, Error>
     ensures { window_told result ≡ window_of session }
 {
-    let window = match session.state {
-        GuestState::Active => Some(session.window),
-        _ => None,
-    };
+    let window = (session.state == GuestState::Active).then_some(session.window);
     asked(session.is_sound(), window)
 }
 
@@ -43,7 +41,7 @@ pub fn outstanding(session: GuestSession) -> Result<u32, Error>
     asked(session.is_sound(), session.outstanding)
 }
 
-// How many more bytes complete the header or the payload in progress.
+// How many more bytes complete the header or the payload in progress (why the host has its own: `state`).
 #[tactic(auto, using(crate::proofs::Soundness::sound_inside), unfolding(crate::specs::Asks::needed_by, parser::specs::Push::counted))]
 pub fn needed(session: GuestSession) -> Result<usize, Error>
     ensures { count_of result ≡ needed_by session }

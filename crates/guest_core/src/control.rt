@@ -16,28 +16,23 @@ use crate::{GuestSession, GuestState};
 use record::codec::encode_record;
 use record::types::RecordType;
 use session::checks::stopped;
+use session::next::encode_bootstrap;
 use session::{After, Sent, held};
+use wire::Sequence;
 use wire::errors::Error;
-use wire::{Epoch, Sequence};
 
-// Writes GUEST_ATTACH, in Detached only.
+// Writes GUEST_ATTACH, in Detached only. The host has this too: each names its own session, state and
+// record, and what is alike is `stopped` and `encode_bootstrap`.
+#[tactic(auto, using(wire::proofs::Rows::numbered), unfolding(record::specs::Record::encode_record, record::specs::Record::all_zero, record::specs::Types::length_ok, outer::specs::Outer::write, wire::specs::Refusals::first))]
 fn write_attach(session: GuestSession, output: &mut [u8], at: usize) -> Result<usize, Error>
     ensures { outer.outcome (outer.written result) output.new ≡ outer.write (first (calls.attach_rows session output.old at)) (record_bytes 1 (replicate 16 0) 0 0 []) output.old at }
 {
     stopped(session.is_sound(), session.state == GuestState::Detached)?;
-    let empty = [0u8; 0];
-    encode_record(
-        RecordType::GuestAttach,
-        [0u8; 16],
-        Epoch(0),
-        Sequence(0),
-        &empty,
-        output,
-        at,
-    )
+    encode_bootstrap(RecordType::GuestAttach, &[], output, at)
 }
 
 // Writes ACK with sequence 0, in Resetting only.
+#[tactic(auto, using(wire::proofs::Rows::numbered, crate::proofs::Calling::ack_told, wire::proofs::NumberLaws::written), unfolding(outer::specs::Outer::write, wire::specs::Refusals::first))]
 fn write_ack(
     session: GuestSession,
     window: u32,
@@ -70,26 +65,25 @@ fn acknowledged(mut session: GuestSession, window: u32) -> GuestSession
     session
 }
 
-// Writes the record with which the guest attaches.
+// Writes the record with which the guest attaches. The host has this too: each builds its own session and
+// names its own state.
+#[tactic(auto, using(wire::proofs::Rows::numbered), unfolding(crate::specs::Calls::attach, crate::specs::Writes::writes, outer::specs::Outer::write))]
 pub fn attach(session: GuestSession, output: &mut [u8], at: usize) -> After<GuestSession, Sent>
     ensures { outcome (sent result) output.new ≡ calls.attach session output.old at }
 {
-    match write_attach(session, output, at) {
-        Ok(next) => After {
-            answer: Ok(Sent { count: 0, next }),
-            session: GuestSession {
-                state: GuestState::Attaching,
-                ..session
-            },
-        },
-        Err(error) => After {
-            answer: Err(error),
-            session,
-        },
-    }
+    let written = write_attach(session, output, at);
+    let attached = written.map(|next| {
+        let session = GuestSession {
+            state: GuestState::Attaching,
+            ..session
+        };
+        (session, Sent { count: 0, next })
+    });
+    After::of(session, attached)
 }
 
 // Writes the acknowledgement of a reset with the window, and becomes Active.
+#[tactic(auto, using(wire::proofs::Rows::numbered), unfolding(crate::specs::Calls::acknowledge, crate::specs::Writes::writes, outer::specs::Outer::write))]
 pub fn acknowledge(
     session: GuestSession,
     window: u32,
@@ -98,34 +92,22 @@ pub fn acknowledge(
 ) -> After<GuestSession, Sent>
     ensures { outcome (sent result) output.new ≡ calls.acknowledge session window output.old at }
 {
-    match write_ack(session, window, output, at) {
-        Ok(next) => After {
-            answer: Ok(Sent { count: 0, next }),
-            session: acknowledged(session, window),
-        },
-        Err(error) => After {
-            answer: Err(error),
-            session,
-        },
-    }
+    let written = write_ack(session, window, output, at);
+    let active = written.map(|next| (acknowledged(session, window), Sent { count: 0, next }));
+    After::of(session, active)
 }
 
-// Ends the session at the end of the stream.
-#[tactic(auto, unfolding(crate::specs::Calls::disconnect, wire::specs::Refusals::first))]
+// Ends the session at the end of the stream. The host has this too: each builds its own session and names
+// its own states.
+#[tactic(auto, using(std::proofs::lemmas::Bool::Decides::nat_tests, crate::proofs::Soundness::sound_inside), unfolding(crate::specs::Calls::disconnect, wire::specs::Refusals::first))]
 pub fn disconnect(session: GuestSession) -> After<GuestSession, ()>
     ensures { closed result ≡ calls.disconnect session }
 {
     if !session.is_sound() {
-        return After {
-            answer: Err(Error::Unsound),
-            session,
-        };
+        return After::of(session, Err(Error::Unsound));
     }
     if session.state.is_ended() {
-        return After {
-            answer: Ok(()),
-            session,
-        };
+        return After::of(session, Ok((session, ())));
     }
     let answer = session.parser.ended();
     let state = match answer {

@@ -1,15 +1,14 @@
 // The guest's session by value (nvxs/guest.rs): what it is and whether it is sound, what it answers
 // when asked (`asks`), and its calls but `receive` (`control`, `send`). The crate `guest`, which a
-// guest's program opens, passes all of this on and adds `receive`.
+// guest's program uses, passes all of this on and adds `receive`.
 #![tactic(auto)]
 
 pub mod asks;
 pub mod control;
 pub mod send;
 
-ghost use Rattle.std.specs.Prelude.{◌≡◌, not, ◌||◌};
-ghost use Rattle.session.specs.Checks.{holds};
-ghost use Rattle.guest_core.specs.State.{code, is_live, is_ended, fresh_guest, sound_guest, active_guest, figures_ok};
+ghost use Rattle.std.specs.Prelude.{◌≡◌};
+ghost use Rattle.guest_core.specs.State.{code, is_open, is_live, is_ended, fresh_guest, sound_guest, active_guest, figures_ok};
 
 use outer::payloads::OUTER_MAX_RECEIVE_WINDOW;
 use parser::RecordParser;
@@ -55,6 +54,23 @@ impl GuestState {
         }
     }
 
+    // Whether the state needs an identity.
+    fn is_live(self) -> bool
+        ensures { result ≡ is_live self }
+    {
+        matches!(self, GuestState::Resetting | GuestState::Active)
+    }
+
+    // Whether a guest receives in this state.
+    pub fn is_open(self) -> bool
+        ensures { result ≡ is_open self }
+    {
+        matches!(
+            self,
+            GuestState::Attaching | GuestState::Resetting | GuestState::Active
+        )
+    }
+
     // Whether the session is over: disconnect does nothing then.
     pub(crate) fn is_ended(self) -> bool
         ensures { result ≡ is_ended self }
@@ -63,25 +79,15 @@ impl GuestState {
     }
 }
 
-// Whether the states that need an identity hold one.
-fn identity_ok(state: GuestState, identity: Option<Identity>) -> bool
-    ensures { result ≡ not (is_live state) || holds identity }
-{
-    match state {
-        GuestState::Resetting | GuestState::Active => is_held(identity),
-        _ => true,
-    }
-}
-
 // Whether window, outstanding and identity fit each other and the state.
-#[tactic(auto, using(std::proofs::lemmas::Bool::Decides::nat_tests, crate::proofs::States::same_is))]
+#[tactic(auto, using(std::proofs::lemmas::Bool::Decides::nat_tests))]
 fn figures_ok(state: GuestState, window: u32, outstanding: u32, identity: Option<Identity>) -> bool
     ensures { result ≡ figures_ok state window outstanding identity }
 {
     outstanding <= window
         && window <= OUTER_MAX_RECEIVE_WINDOW
         && (state != GuestState::Resetting || window == 0)
-        && identity_ok(state, identity)
+        && (!state.is_live() || is_held(identity))
 }
 
 impl GuestSession {
@@ -111,7 +117,7 @@ impl GuestSession {
 
     // Whether the session is Active, and sound but for its parser: the commonest sessions, told by
     // few tests.
-    #[tactic(auto, using(std::proofs::lemmas::Bool::Decides::nat_tests, crate::proofs::States::same_is), unfolding(crate::specs::State::active_guest))]
+    #[tactic(auto, using(std::proofs::lemmas::Bool::Decides::nat_tests), unfolding(crate::specs::State::active_guest))]
     pub fn is_active(self) -> bool
         ensures { result ≡ active_guest self }
     {

@@ -14,7 +14,9 @@ use session::next::{Encoded, encode_data, encode_next};
 use session::{After, Sent, held};
 use wire::errors::Error;
 
-// Any send: 23, 20, then the DATA record.
+// Any send: 23, 20, then the DATA record. The host has this too (`encode_sent`): each names its own session
+// and state, and what is alike is `stopped` and `encode_data`.
+#[tactic(auto, using(wire::proofs::Rows::numbered), unfolding(crate::specs::Send::encoding, wire::specs::Refusals::first))]
 fn encode_any(
     session: GuestSession,
     bytes: &[u8],
@@ -34,6 +36,7 @@ fn encode_any(
 }
 
 // The DATA record of a send. A session that is plainly sound and Active is not moved for the test.
+#[tactic(auto, using(std::proofs::lemmas::Bool::Decides::nat_tests), unfolding(crate::specs::Send::encoding, crate::specs::State::active_guest, crate::specs::State::sound_guest, parser::specs::Push::clear, wire::specs::Refusals::first))]
 fn encode_sent(
     session: GuestSession,
     bytes: &[u8],
@@ -53,7 +56,9 @@ fn encode_sent(
 }
 
 // Writes a DATA record of at most the first 65,536 bytes, and says how many it took. Of the session
-// only the sequence changes, and a refusal leaves that too.
+// only the sequence changes, and a refusal leaves that too. The host has this too: each changes its own
+// session, and its clause is its own rule.
+#[tactic(auto, using(wire::proofs::Rows::refuses, crate::proofs::Sending::by_encoding))]
 pub fn send(
     mut session: GuestSession,
     bytes: &[u8],
@@ -62,19 +67,12 @@ pub fn send(
 ) -> After<GuestSession, Sent>
     ensures { outcome (sent result) output.new ≡ calls.send session bytes.now output.old at }
 {
-    match encode_sent(session, bytes, output, at) {
-        Ok(encoded) => {
-            session.send_sequence = encoded.sequence;
-            After {
-                answer: Ok(encoded.sent),
-                session,
-            }
-        }
-        Err(error) => After {
-            answer: Err(error),
-            session,
-        },
+    let encoded = encode_sent(session, bytes, output, at);
+    if let Ok(encoded) = encoded {
+        session.send_sequence = encoded.sequence;
     }
+    let answer = encoded.map(|encoded| encoded.sent);
+    After { answer, session }
 }
 
 // Checks that a credit is at least 1 and at most what is outstanding.
@@ -89,6 +87,7 @@ fn check_covered(bytes: u32, outstanding: u32) -> Result<(), Error>
 }
 
 // The CREDIT record of a credit: 23, 20, 18, then the record.
+#[tactic(auto, using(wire::proofs::Rows::numbered, std::proofs::lemmas::Bool::Decides::nat_tests, wire::proofs::NumberLaws::written), unfolding(crate::specs::Send::crediting, wire::specs::Refusals::first))]
 fn encode_credit(
     session: GuestSession,
     bytes: u32,
@@ -110,6 +109,7 @@ fn encode_credit(
 }
 
 // Writes a CREDIT record: returns consumed bytes to the window.
+#[tactic(auto, using(std::proofs::lemmas::Bool::Decides::nat_tests, wire::proofs::Rows::refuses, crate::proofs::Sending::by_crediting), unfolding(crate::specs::Send::crediting, wire::specs::Refusals::first))]
 pub fn credit(
     mut session: GuestSession,
     bytes: u32,
@@ -118,18 +118,11 @@ pub fn credit(
 ) -> After<GuestSession, Sent>
     ensures { outcome (sent result) output.new ≡ calls.credit session bytes output.old at }
 {
-    match encode_credit(session, bytes, output, at) {
-        Ok(written) => {
-            session.send_sequence = written.sequence;
-            session.outstanding -= bytes;
-            After {
-                answer: Ok(written.sent),
-                session,
-            }
-        }
-        Err(error) => After {
-            answer: Err(error),
-            session,
-        },
+    let written = encode_credit(session, bytes, output, at);
+    if let Ok(written) = written {
+        session.send_sequence = written.sequence;
+        session.outstanding -= bytes;
     }
+    let answer = written.map(|written| written.sent);
+    After { answer, session }
 }

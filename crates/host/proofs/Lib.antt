@@ -1,4 +1,3 @@
-pub mod States
 pub mod Soundness
 pub mod Checking
 pub mod Calling

@@ -15,7 +15,7 @@ use parser::push::push;
 use parser::{Complete, Place, Pushed, RecordParser};
 use record::types::RecordType;
 use session::checks::ready;
-use session::{After, Identity, Received, identity_in};
+use session::{After, Identity, Received};
 use wire::Sequence;
 use wire::copying::copy_at;
 use wire::errors::Error;
@@ -31,7 +31,8 @@ pub enum HostEvent {
     Reset(Identity),
 }
 
-// The session after a record: the state and the identity that it leads to.
+// The session after a record: the state and the identity that it leads to. That the sequence has a next
+// one is a condition: any session value may come (01), and 16 is tested before.
 fn next_session(
     session: HostSession,
     state: HostState,
@@ -52,7 +53,8 @@ fn next_session(
 
 // What a record does that nothing stops, by its type. WAIT and DATA keep the state, READY sets the
 // identity, and of a RESET the identity is reported and not kept. A type that no state allows has been
-// stopped before; the rule has 10 for it here too.
+// stopped before; the rule has 10 for it here too. That the sequence has a next one is a condition: any
+// session value may come (01), and 16 is tested before.
 #[tactic(auto, using(crate::proofs::Receiving::effect_other), unfolding(crate::specs::Receive::effect))]
 fn effect(
     session: HostSession,
@@ -63,7 +65,7 @@ fn effect(
     ensures { (n : ℕ) → accepted session parser n result ≡ (effect complete.«record».record_type session (told (progressed (Some complete) n parser))).answer }
 {
     let held = session.identity;
-    let carried = identity_in(complete.record);
+    let carried = Identity::from(complete.record);
     let (state, identity, event) = match complete.record.record_type {
         RecordType::Wait => (session.state, held, HostEvent::Wait),
         RecordType::Ready => (
@@ -84,6 +86,7 @@ fn effect(
 }
 
 // A whole record: what stops it, or what it does.
+#[tactic(auto, using(wire::proofs::Rows::refuses, std::proofs::lemmas::Bool::Decides::nat_tests), unfolding(crate::specs::Receive::accept, wire::specs::Refusals::first))]
 fn accept_record(
     session: HostSession,
     parser: RecordParser,
@@ -95,8 +98,8 @@ fn accept_record(
     effect(session, parser, complete)
 }
 
-// A receive that leaves Failed, as the guest has it over its own session (crates/guest/src/accept.rt
-// says why there are two).
+// A receive that leaves Failed. The guest has this, `wait` and `after_push` too: each end builds its own
+// session, has its own event, and its clause is its own rule.
 fn fail(
     session: HostSession,
     parser: RecordParser,
@@ -114,7 +117,7 @@ fn fail(
     }
 }
 
-// A receive of so many bytes that completes no record.
+// A receive of so many bytes that completes no record. The guest has this too (see `fail`).
 fn wait(
     session: HostSession,
     parser: RecordParser,
@@ -122,16 +125,14 @@ fn wait(
 ) -> After<HostSession, Received<HostEvent>>
     ensures { received result ≡ reported None consumed (with_state session session.state parser) }
 {
-    After {
-        answer: Ok(Received {
-            consumed,
-            event: None,
-        }),
-        session: HostSession { parser, ..session },
-    }
+    let received = Received {
+        consumed,
+        event: None,
+    };
+    After::of(session, Ok((HostSession { parser, ..session }, received)))
 }
 
-// After the push: its refusal, no record yet, or a whole record.
+// After the push: its refusal, no record yet, or a whole record. The guest has this too (see `fail`).
 #[tactic(auto, using(wire::proofs::Rows::refuses), unfolding(crate::specs::Receive::after_push))]
 fn after_push(session: HostSession, pushed: Pushed) -> After<HostSession, Received<HostEvent>>
     ensures { received result ≡ (after_push session (told (pushing.pushed pushed))).answer }
@@ -164,17 +165,17 @@ fn keep_waiting(session: HostSession, count: usize) -> After<HostSession, Receiv
     requires { session.parser.payload_len + count < 2 ^ 32 }
     ensures { received result ≡ (after_push session (told (waiting session.parser.header 44 (session.parser.payload_len + count) count))).answer }
 {
-    let header = session.parser.header;
     let parser = RecordParser {
-        header,
         header_len: OUTER_HEADER_LEN,
         payload_len: session.parser.payload_len + count,
         error: None,
+        ..session.parser
     };
     wait(session, parser, count)
 }
 
 // Takes bytes of the piece up to the end of one record, and reports what the record says.
+#[tactic(auto, using(crate::proofs::Receiving::stops, crate::proofs::Receiving::goes, crate::proofs::Receiving::waits, crate::proofs::Receiving::stays_low))]
 pub fn receive(
     session: HostSession,
     piece: &[u8],
@@ -183,10 +184,7 @@ pub fn receive(
     ensures { outcome (received result) stage.new ≡ receive_of session piece.now stage.old }
 {
     if let Err(error) = ready(session.is_sound(), stage.len(), session.state.is_open()) {
-        return After {
-            answer: Err(error),
-            session,
-        };
+        return After::of(session, Err(error));
     }
     if session.parser.stays_open(piece.len()) {
         copy_at(stage, session.parser.payload_len, piece);

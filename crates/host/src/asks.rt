@@ -7,7 +7,7 @@ use crate::{HostSession, HostState};
 use session::{Identity, asked};
 use wire::errors::Error;
 
-// The session's state.
+// The session's state. Why the guest has an ask of its own, here and below: crates/guest_core/src/asks.rt.
 #[tactic(auto, unfolding(crate::specs::Asks::state_of))]
 pub fn state(session: HostSession) -> Result<HostState, Error>
     ensures { state_told result ≡ state_of session }

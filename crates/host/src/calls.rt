@@ -9,15 +9,15 @@ ghost use Rattle.host.specs.Calls.{outcome, sent, closed, attach_rows, encoding}
 ghost use Rattle.host.specs.Calls as rule;
 
 use crate::{HostSession, HostState};
-use record::codec::encode_record;
 use record::types::RecordType;
 use session::checks::stopped;
-use session::next::{Encoded, encode_data};
+use session::next::{Encoded, encode_bootstrap, encode_data};
 use session::{After, Sent, held};
 use wire::errors::Error;
-use wire::{Epoch, Sequence};
 
-// The HOST_ATTACH record with the capability: 23, 20, then the record.
+// The HOST_ATTACH record with the capability: 23, 20, then the record. The guest has this too: each names its
+// own session, state and record, and what is alike is `stopped` and `encode_bootstrap`.
+#[tactic(auto, using(wire::proofs::Rows::numbered), unfolding(record::specs::Record::encode_record, record::specs::Record::all_zero, record::specs::Types::length_ok, outer::specs::Outer::write, wire::specs::Refusals::first))]
 fn write_attach(
     session: HostSession,
     capability: [u8; 32],
@@ -27,18 +27,11 @@ fn write_attach(
     ensures { outer.outcome (outer.written result) output.new ≡ outer.write (first (attach_rows session output.old at)) (record_bytes 2 (replicate 16 0) 0 0 capability) output.old at }
 {
     stopped(session.is_sound(), session.state == HostState::Detached)?;
-    encode_record(
-        RecordType::HostAttach,
-        [0u8; 16],
-        Epoch(0),
-        Sequence(0),
-        &capability,
-        output,
-        at,
-    )
+    encode_bootstrap(RecordType::HostAttach, &capability, output, at)
 }
 
-// Writes the record with which the host attaches.
+// Writes the record with which the host attaches. The guest has this too: each builds its own session and
+// names its own state.
 #[tactic(auto, using(wire::proofs::Rows::numbered), unfolding(crate::specs::Calls::attach, crate::specs::Calls::writes, outer::specs::Outer::write))]
 pub fn attach(
     session: HostSession,
@@ -48,23 +41,20 @@ pub fn attach(
 ) -> After<HostSession, Sent>
     ensures { outcome (sent result) output.new ≡ rule.attach session capability output.old at }
 {
-    match write_attach(session, capability, output, at) {
-        Ok(next) => After {
-            answer: Ok(Sent { count: 0, next }),
-            session: HostSession {
-                state: HostState::Attaching,
-                ..session
-            },
-        },
-        Err(error) => After {
-            answer: Err(error),
-            session,
-        },
-    }
+    let written = write_attach(session, capability, output, at);
+    let attached = written.map(|next| {
+        let session = HostSession {
+            state: HostState::Attaching,
+            ..session
+        };
+        (session, Sent { count: 0, next })
+    });
+    After::of(session, attached)
 }
 
-// The DATA record of a send: 23, 20, then the record.
-#[tactic(auto, using(wire::proofs::Rows::numbered, crate::proofs::States::same_is), unfolding(crate::specs::Calls::encoding, wire::specs::Refusals::first))]
+// The DATA record of a send: 23, 20, then the record. The guest has this too (`encode_any`): each names its
+// own session and state, and what is alike is `stopped` and `encode_data`.
+#[tactic(auto, using(wire::proofs::Rows::numbered), unfolding(crate::specs::Calls::encoding, wire::specs::Refusals::first))]
 fn encode_sent(
     session: HostSession,
     bytes: &[u8],
@@ -84,7 +74,9 @@ fn encode_sent(
 }
 
 // Writes a DATA record of at most the first 65,536 bytes, and says how many it took. Of the session
-// only the sequence changes, and a refusal leaves that too.
+// only the sequence changes, and a refusal leaves that too. The guest has this too: each changes its own
+// session, and its clause is its own rule.
+#[tactic(auto, using(wire::proofs::Rows::refuses, crate::proofs::Calling::by_encoding))]
 pub fn send(
     mut session: HostSession,
     bytes: &[u8],
@@ -93,38 +85,25 @@ pub fn send(
 ) -> After<HostSession, Sent>
     ensures { outcome (sent result) output.new ≡ rule.send session bytes.now output.old at }
 {
-    match encode_sent(session, bytes, output, at) {
-        Ok(encoded) => {
-            session.send_sequence = encoded.sequence;
-            After {
-                answer: Ok(encoded.sent),
-                session,
-            }
-        }
-        Err(error) => After {
-            answer: Err(error),
-            session,
-        },
+    let encoded = encode_sent(session, bytes, output, at);
+    if let Ok(encoded) = encoded {
+        session.send_sequence = encoded.sequence;
     }
+    let answer = encoded.map(|encoded| encoded.sent);
+    After { answer, session }
 }
 
 // Ends the session at the end of the stream: 19 with bytes buffered leaves Failed, or it leads to
-// Closed.
+// Closed. The guest has this too: each builds its own session and names its own states.
 #[tactic(auto, unfolding(crate::specs::State::sound_host, crate::specs::Calls::disconnect, wire::specs::Refusals::first))]
 pub fn disconnect(session: HostSession) -> After<HostSession, ()>
     ensures { closed result ≡ rule.disconnect session }
 {
     if !session.is_sound() {
-        return After {
-            answer: Err(Error::Unsound),
-            session,
-        };
+        return After::of(session, Err(Error::Unsound));
     }
     if !session.state.is_begun() {
-        return After {
-            answer: Ok(()),
-            session,
-        };
+        return After::of(session, Ok((session, ())));
     }
     let answer = session.parser.ended();
     let state = match answer {

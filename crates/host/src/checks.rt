@@ -9,7 +9,7 @@ use crate::{HostSession, HostState};
 use record::Record;
 use record::types::RecordType;
 use session::checks::{check_identity, check_instance, check_sequence};
-use session::{Identity, held, identity_in, is_identity, next_sequence};
+use session::{Identity, held, is_identity, next_sequence};
 use wire::Sequence;
 use wire::errors::Error;
 
@@ -42,7 +42,7 @@ fn is_allowed(state: HostState, kind: RecordType) -> bool
 }
 
 // What stops a record by its type and sequence: 10, 15, 16.
-#[tactic(auto, using(wire::proofs::Rows::numbered, session::proofs::Cases::next_verdict), unfolding(wire::specs::Refusals::first))]
+#[tactic(auto, using(wire::proofs::Rows::numbered), unfolding(session::specs::Checks::next_sequence, wire::specs::Refusals::first))]
 fn check_order(
     state: HostState,
     record_type: RecordType,
@@ -77,7 +77,7 @@ fn check_reset(actual: Identity, current: Identity) -> Result<(), Error>
 {
     check_carried(RecordType::Reset, actual)?;
     check_instance(actual.instance_id, current.instance_id)?;
-    if actual.epoch.0 <= current.epoch.0 {
+    if actual.epoch <= current.epoch {
         return Err(Error::StaleEpoch {
             current: current.epoch.0,
             actual: actual.epoch.0,
@@ -91,7 +91,7 @@ fn check_reset(actual: Identity, current: Identity) -> Result<(), Error>
 fn check_type(kind: RecordType, current: Identity, record: Record) -> Result<(), Error>
     ensures { verdict result ≡ first (type_rows (code_of kind) current «record») }
 {
-    let actual = identity_in(record);
+    let actual = Identity::from(record);
     match kind {
         RecordType::Ready => check_carried(RecordType::Ready, actual),
         RecordType::Data => check_identity(actual, current),
@@ -101,6 +101,7 @@ fn check_type(kind: RecordType, current: Identity, record: Record) -> Result<(),
 }
 
 // What stops a whole record.
+#[tactic(auto, using(wire::proofs::Rows::refuses, crate::proofs::Checking::order_told))]
 pub(crate) fn check_record(session: HostSession, record: Record) -> Result<(), Error>
     ensures { verdict result ≡ first (record_rows session «record») }
 {

@@ -8,9 +8,8 @@ mod asks;
 mod calls;
 mod checks;
 
-ghost use Rattle.std.specs.Prelude.{◌≡◌, not, ◌||◌};
-ghost use Rattle.session.specs.Checks.{holds};
-ghost use Rattle.host.specs.State.{code, is_attached, is_open, is_begun, fresh_host, sound_host};
+ghost use Rattle.std.specs.Prelude.{◌≡◌};
+ghost use Rattle.host.specs.State.{code, is_open, is_begun, fresh_host, sound_host};
 
 pub use crate::accept::{HostEvent, receive};
 pub use crate::asks::{identity, needed, state};
@@ -78,16 +77,6 @@ impl HostState {
     }
 }
 
-// Whether Attached holds an identity.
-fn identity_ok(state: HostState, identity: Option<Identity>) -> bool
-    ensures { result ≡ not (is_attached state) || holds identity }
-{
-    match state {
-        HostState::Attached => is_held(identity),
-        _ => true,
-    }
-}
-
 impl HostSession {
     // A session that has not attached.
     pub fn new() -> HostSession
@@ -107,6 +96,6 @@ impl HostSession {
     pub fn is_sound(self) -> bool
         ensures { result ≡ sound_host self }
     {
-        self.parser.is_sound() && identity_ok(self.state, self.identity)
+        self.parser.is_sound() && (self.state != HostState::Attached || is_held(self.identity))
     }
 }

@@ -1,3 +1,1 @@
-pub mod Cases
-pub mod Stopping
 pub mod NextCases

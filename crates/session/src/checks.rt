@@ -1,5 +1,7 @@
 // The checks that both ends share (nvxs/mod.rs): on the state that a call needs, and on a record's
 // sequence and identity.
+#![tactic(auto, unfolding(wire::specs::Refusals::first))]
+
 ghost use Rattle.std.specs.Prelude.{◌≡◌, [], ◌∷◌, leb};
 ghost use Rattle.wire.specs.Refusals.{verdict, first, refusal};
 ghost use Rattle.outer.specs.Outer.{max_payload};
@@ -60,6 +62,7 @@ pub fn check_instance(actual: [u8; 16], expected: [u8; 16]) -> Result<(), Error>
 }
 
 // Checks a record's identity: its instance, then its epoch.
+#[tactic(auto, using(wire::proofs::Rows::numbered), unfolding(wire::specs::Refusals::first))]
 pub fn check_identity(actual: Identity, expected: Identity) -> Result<(), Error>
     ensures { verdict result ≡ first (instance_row expected.instance_id actual.instance_id ∷ epoch_row expected.epoch.0 actual.epoch.0 ∷ []) }
 {

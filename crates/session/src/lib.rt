@@ -8,7 +8,7 @@ pub mod next;
 ghost use Rattle.std.specs.Prelude.{◌≡◌};
 ghost use Rattle.record.specs.Types.{code_of};
 ghost use Rattle.session.specs.Checks.{identity_of, same, no_identity, identity_ok, holds, held, record_identity, following, next_sequence};
-ghost use Rattle.session.specs.Answers.{asked};
+ghost use Rattle.session.specs.Answers.{after, asked};
 
 use record::Record;
 use record::checks::all_zero;
@@ -28,6 +28,32 @@ pub struct Identity {
 pub struct After<S, T> {
     pub answer: Result<T, Error>,
     pub session: S,
+}
+
+impl<S: Copy, T: Copy> After<S, T> {
+    // What a call answers that is refused with nothing changed, or done with a session after it.
+    pub fn of(before: S, done: Result<(S, T), Error>) -> After<S, T>
+        ensures { result ≡ after before done }
+    {
+        match done {
+            Ok((session, value)) => After {
+                answer: Ok(value),
+                session,
+            },
+            Err(error) => After {
+                answer: Err(error),
+                session: before,
+            },
+        }
+    }
+
+    // Stores the session where the caller keeps it, and gives the answer.
+    pub fn store(self, session: &mut S) -> Result<T, Error>
+        ensures { (result ≡ self.answer) × (session.new ≡ self.session) }
+    {
+        *session = self.session;
+        self.answer
+    }
 }
 
 // What a call that writes answers: the bytes of data taken by `send`, else 0, and the position
@@ -64,7 +90,7 @@ pub fn no_identity() -> Identity
 }
 
 // Whether the fields are an identity: an instance not all zero with an epoch not 0.
-#[tactic(auto, using(crate::proofs::Cases::identity_zero, crate::proofs::Cases::identity_epoch))]
+#[tactic(auto, unfolding(crate::specs::Checks::identity_ok))]
 pub fn is_identity(instance_id: [u8; 16], epoch: Epoch) -> bool
     ensures { result ≡ identity_ok instance_id epoch.0 }
 {
@@ -76,10 +102,7 @@ pub fn is_identity(instance_id: [u8; 16], epoch: Epoch) -> bool
 pub fn is_held(identity: Option<Identity>) -> bool
     ensures { result ≡ holds identity }
 {
-    match identity {
-        Some(held) => is_identity(held.instance_id, held.epoch),
-        None => false,
-    }
+    identity.is_some_and(|held| is_identity(held.instance_id, held.epoch))
 }
 
 // The identity that is held, or no identity.
@@ -89,34 +112,41 @@ pub fn held(identity: Option<Identity>) -> Identity
     identity.unwrap_or(no_identity())
 }
 
-// The identity that a record's fields make.
-pub fn identity_in(record: Record) -> Identity
-    ensures { result ≡ identity_of «record» }
-{
-    let instance_id = record.instance_id;
-    let epoch = record.epoch;
-    Identity { instance_id, epoch }
+// The identity that a record's fields make. A field that is an array is read into a variable first, as
+// the check of borrows needs it.
+impl From<Record> for Identity {
+    ghost from_gives = { λ r i. i ≡ identity_of r };
+
+    fn from(record: Record) -> Identity {
+        let instance_id = record.instance_id;
+        Identity {
+            instance_id,
+            epoch: record.epoch,
+        }
+    }
 }
 
 // The identity that a record carries.
-#[tactic(auto, using(crate::proofs::Cases::carries, crate::proofs::Cases::carries_none))]
+#[tactic(auto, unfolding(crate::specs::Checks::record_identity))]
 pub fn record_identity(record: Record) -> Option<Identity>
     ensures { result ≡ record_identity «record» }
 {
     if is_identity(record.instance_id, record.epoch) {
-        return Some(identity_in(record));
+        return Some(Identity::from(record));
     }
     None
 }
 
 // The sequence after another. The one after 2^64 - 1 does not exist.
+#[tactic(auto, using(std::proofs::lemmas::Bool::Decides::nat_tests), unfolding(crate::specs::Checks::next_sequence))]
 pub fn next_sequence(sequence: Sequence, record_type: RecordType) -> Result<Sequence, Error>
     ensures { following result ≡ next_sequence sequence.0 (code_of record_type) }
 {
-    match sequence.0.checked_add(1) {
-        Some(next) => Ok(Sequence(next)),
-        None => Err(Error::SequenceOverflow(record_type.code())),
-    }
+    sequence
+        .0
+        .checked_add(1)
+        .map(Sequence)
+        .ok_or(Error::SequenceOverflow(record_type.code()))
 }
 
 // The answer of an ask to a session: 23, or the value.

@@ -1,16 +1,18 @@
 // The encoders of the next record of a direction, which the two ends of a session share (nvxs/mod.rs).
-ghost use Rattle.std.specs.Prelude.{◌≡◌};
+ghost use Rattle.std.specs.Prelude.{◌≡◌, replicate};
+ghost use Rattle.outer.specs.Outer as outer;
 ghost use Rattle.record.specs.Types.{code_of};
+ghost use Rattle.record.specs.Record as rule;
 ghost use Rattle.session.specs.Writes.{outcome, encoded, encode_next, encode_data};
 
 use crate::{Identity, Sent, next_sequence};
 use outer::OUTER_MAX_PAYLOAD;
 use record::codec::encode_record;
 use record::types::RecordType;
-use wire::Sequence;
 use wire::errors::Error;
+use wire::{Epoch, Sequence};
 
-// What encoding the next record answers: what the call answers, and the sequence after the record's.
+// The answer of the call, and the sequence that is next.
 #[derive(Clone, Copy, Debug, PartialEq, Eq)]
 pub struct Encoded {
     pub sent: Sent,
@@ -18,6 +20,7 @@ pub struct Encoded {
 }
 
 // Encodes the next record of a direction, of which `count` bytes of data are told.
+#[tactic(auto, using(wire::proofs::Rows::numbered), unfolding(crate::specs::Checks::next_sequence, crate::specs::Writes::encode_next, record::specs::Record::encode_record, outer::specs::Outer::write, wire::specs::Refusals::first))]
 fn encode_counted(
     record_type: RecordType,
     identity: Identity,
@@ -76,6 +79,26 @@ pub fn encode_data(
         sequence,
         taken,
         &bytes[..taken],
+        output,
+        at,
+    )
+}
+
+// Encodes a record with which an end attaches: it has no identity yet, and sequence 0.
+pub fn encode_bootstrap(
+    record_type: RecordType,
+    payload: &[u8],
+    output: &mut [u8],
+    at: usize,
+) -> Result<usize, Error>
+    ensures { outer.outcome (outer.written result) output.new ≡ rule.encode_record (code_of record_type) (replicate 16 0) 0 0 payload.now output.old at }
+{
+    encode_record(
+        record_type,
+        [0u8; 16],
+        Epoch(0),
+        Sequence(0),
+        payload,
         output,
         at,
     )
