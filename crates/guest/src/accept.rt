@@ -1,13 +1,13 @@
 // What a guest's session makes of a push (01, "receive"), by value: `receive_any` is any receive, on
 // which the fast path falls back.
-ghost use Rattle.std.specs.Prelude.{◌≡◌, ◌+◌, ◌^◌, ◌<◌, ℕ, Some};
+ghost use Rattle.std.specs.Prelude.{◌≡◌, ◌+◌, ◌^◌, ◌<◌, ℕ, Some, None};
 ghost use Rattle.wire.specs.Refusals.{refusal_of};
 ghost use Rattle.parser.specs.Push.{progressed};
 ghost use Rattle.parser.specs.Push as pushing;
 ghost use Rattle.session.specs.Checks.{last_sequence};
-ghost use Rattle.guest_core.specs.State.{is_open, with_state, reset_session, data_guest};
+ghost use Rattle.guest_core.specs.State.{with_state, reset_session, data_guest};
 ghost use Rattle.guest_core.specs.declared.GuestState.TheVariants as State;
-ghost use Rattle.guest.specs.Receive.{told, refused, accepted, received, accept, accept_reset, accept_data, after_push, receive_of};
+ghost use Rattle.guest.specs.Receive.{told, refused, reported, accepted, received, accept, accept_reset, accept_data, after_push, receive_of};
 ghost use Rattle.guest.specs.Receive as receiving;
 
 use crate::checks::{check_data, check_reset};
@@ -16,7 +16,7 @@ use parser::push::push;
 use parser::{Complete, Place, Pushed, RecordParser};
 use record::types::RecordType;
 use session::checks::ready;
-use session::{After, Identity, Received, identity_in};
+use session::{After, Identity, Received};
 use wire::Sequence;
 use wire::errors::Error;
 
@@ -27,17 +27,8 @@ pub enum GuestEvent {
     Data { place: Place, length: usize },
 }
 
-// Whether a guest receives in a state.
-fn is_open(state: GuestState) -> bool
-    ensures { result ≡ is_open state }
-{
-    matches!(
-        state,
-        GuestState::Attaching | GuestState::Resetting | GuestState::Active
-    )
-}
-
-// The session after a RESET.
+// The session after a RESET. That the sequence has a next one is a condition, here and for DATA: any
+// session value may come (01), and 16 is tested before.
 fn reset_session(parser: RecordParser, identity: Identity, sequence: Sequence) -> GuestSession
     requires { sequence.0 < last_sequence }
     ensures { result ≡ reset_session parser identity sequence.0 }
@@ -71,6 +62,7 @@ pub(crate) fn data_session(
 }
 
 // A RESET: the session starts a new epoch.
+#[tactic(auto, unfolding(crate::specs::Receive::accept_reset, wire::specs::Refusals::first))]
 fn accept_reset(
     session: GuestSession,
     parser: RecordParser,
@@ -80,12 +72,13 @@ fn accept_reset(
 {
     let record = complete.record;
     check_reset(session.identity, record)?;
-    let identity = identity_in(record);
+    let identity = Identity::from(record);
     let session = reset_session(parser, identity, record.sequence);
     Ok((session, GuestEvent::Reset(identity)))
 }
 
 // DATA: its bytes are handed out.
+#[tactic(auto, unfolding(crate::specs::Receive::accept_data, wire::specs::Refusals::first))]
 fn accept_data(
     session: GuestSession,
     parser: RecordParser,
@@ -101,6 +94,7 @@ fn accept_data(
 }
 
 // A whole record: a RESET, DATA when Active, or 10.
+#[tactic(auto, unfolding(crate::specs::Receive::accept, wire::specs::Refusals::first))]
 fn accept_record(
     session: GuestSession,
     parser: RecordParser,
@@ -118,8 +112,9 @@ fn accept_record(
     Err(Error::Unexpected(kind.code()))
 }
 
-// A receive that leaves Failed. The host has this and `after_push` over its own session: one function
-// for both would need a trait whose laws are the rules of both ends, which is longer than the two.
+// A receive that leaves Failed. The host has this, `wait` and `after_push` too: each end builds its own
+// session and has its own event, and the clause of each function is the end's own rule. By
+// `After::of` (as in `wait`) every receive was slower, by some seven instructions.
 fn fail(
     session: GuestSession,
     parser: RecordParser,
@@ -137,7 +132,23 @@ fn fail(
     }
 }
 
+// A receive of so many bytes that completes no record.
+pub(crate) fn wait(
+    session: GuestSession,
+    parser: RecordParser,
+    consumed: usize,
+) -> After<GuestSession, Received<GuestEvent>>
+    ensures { received result ≡ reported None consumed (with_state session session.state parser) }
+{
+    let received = Received {
+        consumed,
+        event: None,
+    };
+    After::of(session, Ok((GuestSession { parser, ..session }, received)))
+}
+
 // After the push: its refusal, no record yet, or a whole record.
+#[tactic(auto, unfolding(crate::specs::Receive::after_push))]
 fn after_push(session: GuestSession, pushed: Pushed) -> After<GuestSession, Received<GuestEvent>>
     ensures { received result ≡ (after_push session (told (pushing.pushed pushed))).answer }
 {
@@ -148,13 +159,7 @@ fn after_push(session: GuestSession, pushed: Pushed) -> After<GuestSession, Rece
     };
     let consumed = progress.consumed;
     let Some(complete) = progress.complete else {
-        return After {
-            answer: Ok(Received {
-                consumed,
-                event: None,
-            }),
-            session: GuestSession { parser, ..session },
-        };
+        return wait(session, parser, consumed);
     };
     match accept_record(session, parser, complete) {
         Ok((session, event)) => After {
@@ -169,6 +174,7 @@ fn after_push(session: GuestSession, pushed: Pushed) -> After<GuestSession, Rece
 }
 
 // Any receive: what stops it, then the push and what it says.
+#[tactic(auto, using(crate::proofs::Receiving::answer_told), unfolding(crate::specs::Receive::receive_of, crate::specs::Receive::receive, crate::specs::Receive::receive_stage, parser::specs::Push::push_of))]
 pub(crate) fn receive_any(
     session: GuestSession,
     piece: &[u8],
@@ -176,7 +182,7 @@ pub(crate) fn receive_any(
 ) -> After<GuestSession, Received<GuestEvent>>
     ensures { receiving.outcome (received result) stage.new ≡ receive_of session piece.now stage.old }
 {
-    match ready(session.is_sound(), stage.len(), is_open(session.state)) {
+    match ready(session.is_sound(), stage.len(), session.state.is_open()) {
         Ok(()) => after_push(session, push(session.parser, piece, stage)),
         Err(error) => After {
             answer: Err(error),

@@ -1,41 +1,33 @@
 // What stops a whole record at a guest (01, "receive"): a RESET, and DATA.
+#![tactic(auto, unfolding(wire::specs::Refusals::first, session::specs::Checks::record_identity, session::specs::Checks::next_sequence))]
+
 ghost use Rattle.std.specs.Prelude.{◌≡◌, [], ◌∷◌};
 ghost use Rattle.wire.specs.Refusals.{verdict, first};
 ghost use Rattle.session.specs.Checks.{next_row};
-ghost use Rattle.guest.specs.Checks.{stale, reset_rows, window_row, data_rows};
+ghost use Rattle.guest.specs.Checks.{reset_rows, window_row, data_rows};
 
 use guest_core::GuestSession;
 use record::Record;
 use record::types::RecordType;
 use session::checks::{check_identity, check_sequence};
-use session::{Identity, held, identity_in, next_sequence, record_identity, same_instance};
+use session::{Identity, held, next_sequence, record_identity, same_instance};
 use wire::Sequence;
 use wire::errors::Error;
 
-// Whether a RESET does not advance the epoch of an identity that is held.
-fn is_stale(current: Option<Identity>, actual: Identity) -> bool
-    ensures { result ≡ stale current actual.instance_id actual.epoch.0 }
-{
-    match current {
-        Some(held) => {
-            same_instance(actual.instance_id, held.instance_id) && actual.epoch.0 <= held.epoch.0
-        }
-        None => false,
-    }
-}
-
-// What stops a RESET: 11, 14, 16.
+// What stops a RESET: 11, 14 (an epoch that does not advance the one held of the same instance), 16.
 pub(crate) fn check_reset(current: Option<Identity>, record: Record) -> Result<(), Error>
     ensures { verdict result ≡ first (reset_rows current «record») }
 {
     let Some(carried) = record_identity(record) else {
         return Err(Error::MissingIdentity(RecordType::Reset.code()));
     };
-    if is_stale(current, carried) {
-        return Err(Error::StaleEpoch {
-            current: held(current).epoch.0,
-            actual: carried.epoch.0,
-        });
+    if let Some(held) = current {
+        if same_instance(carried.instance_id, held.instance_id) && carried.epoch <= held.epoch {
+            return Err(Error::StaleEpoch {
+                current: held.epoch.0,
+                actual: carried.epoch.0,
+            });
+        }
     }
     next_sequence(record.sequence, RecordType::Reset)?;
     Ok(())
@@ -61,7 +53,7 @@ pub(crate) fn check_data(session: GuestSession, record: Record) -> Result<(), Er
     ensures { verdict result ≡ first (data_rows session «record») }
 {
     check_sequence(record.sequence, session.receive_sequence)?;
-    check_identity(identity_in(record), held(session.identity))?;
+    check_identity(Identity::from(record), held(session.identity))?;
     check_room(
         session.receive_sequence,
         session.window,

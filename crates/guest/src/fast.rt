@@ -8,7 +8,7 @@ ghost use Rattle.guest.specs.Receive.{received, receive_of};
 ghost use Rattle.guest.specs.Receive as receiving;
 ghost use Rattle.guest.specs.Flow.{flowing, after44, takes_data, stays, waits_at, hands_out, Fits, stepped, Stepped};
 
-use crate::accept::{GuestEvent, data_session, receive_any};
+use crate::accept::{GuestEvent, data_session, receive_any, wait};
 use guest_core::GuestSession;
 use outer::{OUTER_HEADER_LEN, OUTER_MAX_PAYLOAD};
 use parser::{Place, RecordParser};
@@ -20,7 +20,7 @@ use wire::parts::filled;
 
 // Whether DATA may flow: an Active session that is sound, with no header held but one of DATA, and
 // a whole stage.
-#[tactic(auto, using(std::proofs::lemmas::Bool::Decides::nat_tests), unfolding(crate::specs::Flow::flowing))]
+#[tactic(auto, unfolding(crate::specs::Flow::flowing))]
 fn flows(session: GuestSession, room: usize) -> bool
     ensures { result ≡ flowing session room }
 {
@@ -64,7 +64,7 @@ fn hands(length: usize, consumed: usize, place: Place) -> Step
 }
 
 // Whether a header is one of DATA that the session takes: 15, 12, 13, 16 and 17 pass.
-#[tactic(auto, using(std::proofs::lemmas::Bool::Decides::nat_tests), unfolding(crate::specs::Flow::takes_data, wire::specs::Refusals::first, record::specs::Record::record_with))]
+#[tactic(auto, unfolding(crate::specs::Flow::takes_data, wire::specs::Refusals::first, record::specs::Record::record_with))]
 fn takes(session: GuestSession, header: &[u8; 44]) -> bool
     ensures { result ≡ true → takes_data session header.now ≡ true }
 {
@@ -72,15 +72,17 @@ fn takes(session: GuestSession, header: &[u8; 44]) -> bool
         return false;
     };
     is_data(header)
-        && fields::sequence(header).0 == session.receive_sequence.0
+        && fields::sequence(header) == session.receive_sequence
         && same_instance(fields::instance_id(header), identity.instance_id)
-        && fields::epoch(header).0 == identity.epoch.0
+        && fields::epoch(header) == identity.epoch
         && session.receive_sequence.0 < u64::MAX
         && fields::length(header) <= session.window.saturating_sub(session.outstanding)
 }
 
 // Byte 44 of a header has come; `rest` is the piece from its index `from` on. Where the header is not
-// one of DATA that the session takes nothing is done.
+// one of DATA that the session takes nothing is done. Stage and index are the caller's (see
+// `payload_step` of the parser).
+#[tactic(auto, using(crate::proofs::Flowing::data_steps))]
 fn data_step(
     session: GuestSession,
     header: &[u8; 44],
@@ -109,6 +111,7 @@ fn data_step(
 }
 
 // A header with the bytes of a piece that are its own.
+#[tactic(auto, using(parser::proofs::Cases::bytes_are))]
 fn with_front(header: [u8; 44], had: usize, piece: &[u8]) -> [u8; 44]
     requires { had ≤ 44 }
     ensures { result ≡ head_with header had piece.now }
@@ -119,6 +122,7 @@ fn with_front(header: [u8; 44], had: usize, piece: &[u8]) -> [u8; 44]
 
 // Bytes of a header, or of DATA that the session takes. `header` has the piece's bytes that are its
 // own.
+#[tactic(auto, using(crate::proofs::Flowing::head_steps))]
 fn head_step(
     session: GuestSession,
     header: [u8; 44],
@@ -161,7 +165,9 @@ fn step_done(
     }
 }
 
-// A receive of payload bytes that leaves the payload unfinished.
+// A receive of payload bytes that leaves the payload unfinished. The host has its own: it has another
+// session and another rule, and its test of what stops a receive stands before it.
+#[tactic(auto, using(crate::proofs::Flowing::stays_low, crate::proofs::Flowing::stays_waits))]
 fn keep_waiting(
     session: GuestSession,
     piece: &[u8],
@@ -176,16 +182,11 @@ fn keep_waiting(
         error: None,
         ..session.parser
     };
-    After {
-        answer: Ok(Received {
-            consumed: piece.len(),
-            event: None,
-        }),
-        session: GuestSession { parser, ..session },
-    }
+    wait(session, parser, piece.len())
 }
 
 // Takes bytes of the piece up to the end of one record, and reports what the record says.
+#[tactic(auto, using(crate::proofs::Flowing::flow_count, crate::proofs::Flowing::goes))]
 pub fn receive(
     session: GuestSession,
     piece: &[u8],

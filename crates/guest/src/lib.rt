@@ -1,4 +1,4 @@
-// What a guest's program opens (nvxs/guest.rs): the session, what it answers when asked and its calls,
+// What a guest's program uses (nvxs/guest.rs): the session, what it answers when asked and its calls,
 // all passed on from `guest_core`; `receive`, with `payload` for the bytes of DATA that a receive
 // handed out; and the types of their answers.
 #![tactic(auto)]
