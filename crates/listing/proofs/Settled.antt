@@ -9,33 +9,23 @@ use native.Mathlib.Decide.{dec_le, ℕ_discrete}
 use lib.ListN.{length, take, drop, length-append, length-take, length-drop, drop_of_length-le}
 use lib.Seq.{take_all, drop_at, drop-drop}
 use lib.Dec.{eqb, leb, ltb, lit≤}
-use lib.Pointwise.{pointwise}
-use Rattle.std.specs.Prelude.{Option, None, Some, MatchOption, IsSomeAnd}
+use Rattle.std.specs.Prelude.{Option}
 use Rattle.std.specs.List.{list_all}
-use borrow.Author.Tests.{ltb-false, leb-true, eq-eqb, ne_eqb, eqb-true, eqb-false}
+use borrow.Author.Tests.{ltb-false, leb-true, ne_eqb, eqb-true, eqb-false}
 use Rattle.wire.specs.Bytes.{overlay}
-use Rattle.wire.specs.Refusals.{pick, refusal, record_refusal, refused, first, passes}
+use Rattle.wire.specs.Refusals.{pick, refusal, refused, first, passes}
 use Rattle.wire.specs.Header.{type_of, length_of}
-use Rattle.wire.specs.declared.Refusal.{Refusal}
 use Rattle.wire.specs.declared.errors.RecordError.{RecordError}
 use Rattle.wire.proofs.Rows.{picked, and_left, and_right}
 use Rattle.record.specs.Record.{all_zero, header_checks, payload_checks}
-use Rattle.record.proofs.Cases.{zeros}
-use Rattle.parser.specs.Push.{parser_of, fresh, latched, latch, counts_ok, error_ok, sound_parser, Push, waiting, finish, body_taken, push_body, head_taken, head_with, push_head, push_rows, push, buffered_of}
+use Rattle.parser.specs.Push.{latched, latch, counts_ok, error_ok, sound_parser, Push, waiting, finish, body_taken, push_body, head_taken, head_with, push_head, push_rows, push, buffered_of}
 use Rattle.parser.specs.declared.RecordParser.{RecordParser}
 use Rattle.parser.specs.declared.Place.{Place}
 use Rattle.parser.specs.declared.Place.TheVariants.{Piece, Stage}
 use Rattle.parser.proofs.Cases.{sound_count, sound_empty}
 use Rattle.listing.specs.Settled.{idle, settled, number_only, is_settled}
 
--- ---- a refusal that is its number alone, and header bytes that are 0 from an index on
-module _ (r x : Refusal) (e : x ≡ refusal r.number 0 0 0) (le : length r.expected ≡ 16) (la : length r.actual ≡ 16) where
-  pub number_is : eqb r.number x.number && (eqb r.a x.a && (eqb r.b x.b && (eqb r.c x.c && (pointwise eqb r.expected x.expected && pointwise eqb r.actual x.actual)))) ≡ number_only r
-  unfolding number_only
-  number_is =
-      ap (λ (y : Refusal). eqb r.number y.number && (eqb r.a y.a && (eqb r.b y.b && (eqb r.c y.c && (pointwise eqb r.expected y.expected && pointwise eqb r.actual y.actual))))) e
-      ∙ simp (eq-eqb r.number r.number refl, zeros r.expected le, zeros r.actual la)
-
+-- ---- header bytes that are 0 from an index on
 all_are : (l : List ℕ) → list_all (λ b. eqb b 0) l ≡ all_zero l
 unfolding all_zero
 all_are [] = refl
@@ -51,26 +41,13 @@ zeros_from l from at n e =
     go (yes h) = let q : at ≡ from = omega arith in ap (λ (k : ℕ). drop k l) q
     go (no h) = drop_of_length-le l {i = at} (omega arith) ∙ sym (drop_of_length-le l {i = from} (omega arith))
 
--- ---- a law for each `return` of `settle`
--- an error with its figures 0, or none
-bare_error : (o e : Option RecordError) → MatchOption o (e ≡ None) (λ x. IsSomeAnd e (λ y. Some y ≡ latch (refusal (record_refusal x).number 0 0 0))) → e ≡ latch (refusal (refused o).number 0 0 0)
-unfolding latch
-bare_error None e m = m
-bare_error (Some x) (Some y) m = m
-bare_error (Some x) None m = absurd m
-
+-- ---- what `settled` leaves
+-- with a byte of a header, all
 module _ (p : RecordParser) where
   pub keeps_all : (p.header_len ≡ 0 → ⊥) → p ≡ settled p
   unfolding settled
   keeps_all h = simp (ne_eqb p.header_len 0 h)
 
-  pub keeps_number : (n : RecordParser) (e : Option RecordError) → p.header_len ≡ 0 → n ≡ fresh → MatchOption p.error (e ≡ None) (λ x. IsSomeAnd e (λ y. Some y ≡ latch (refusal (record_refusal x).number 0 0 0)))
-      → parser_of n.header n.header_len n.payload_len e ≡ settled p
-  unfolding settled
-  keeps_number n e h q m =
-      simp (eq-eqb p.header_len 0 h) (λ j. parser_of (q j).header (q j).header_len (q j).payload_len (bare_error p.error e m j))
-
--- ---- what `settled` leaves
 -- of an error its number alone
 abbrev Bare : ℕ → Option RecordError → Type 0
 Bare n e = (number_only (refused e) ≡ true) × (n ≤ 9 → (refused e).number ≡ n)

@@ -1,10 +1,11 @@
 -- The listing made a piece at a time: what each call answers, and what it leaves in the stage and the output.
-use Rattle.std.specs.Prelude.{ℕ, zero, suc, ◌+◌, ◌-◌, Bool, ◌&&◌, List, [], ◌∷◌, length, take, drop, leb, ltb}
+use Rattle.std.specs.Prelude.{ℕ, zero, suc, ◌+◌, ◌-◌, ◌≤◌, ◌≡◌, Bool, true, ◌&&◌, List, [], ◌∷◌, length, take, drop, leb, ltb, Result}
 use Rattle.wire.specs.Bytes.{overlay}
 use Rattle.wire.specs.Refusals.{pick, refusal, none, first, passes, verdict}
 use Rattle.outer.specs.Outer as outer
 use Rattle.outer.specs.Outer.{max_payload, write}
 use Rattle.wire.specs.declared.Refusal.{Refusal}
+use Rattle.wire.specs.declared.errors.Error.{Error}
 use Rattle.record.specs.Types.{code_of}
 use Rattle.record.specs.declared.Record.{Record}
 use Rattle.parser.specs.Push as parser
@@ -47,9 +48,12 @@ pub record Listed : Type 0 where
 abbrev pub listed : Refusal → ℕ → ℕ → Listing → Listed
 listed r taken written s = record { refusal = r; taken = taken; written = written; listing = s }
 
--- the answer of the code: an error, or none
+-- what the code has done, with what it answers: an error, or none
+abbrev pub told : Result (Unit {0}) Error → code.Listed → Listed
+told answer u = listed (verdict answer) u.taken u.written u.listing
+
 abbrev pub answered : code.Listed → Listed
-answered u = listed (verdict u.answer) u.taken u.written u.listing
+answered u = told u.answer u
 
 -- with stage and output as it leaves them
 pub record Outcome : Type 0 where
@@ -91,6 +95,18 @@ step_of s piece stage output at = pushed s piece output at (push_of s.parser pie
 abbrev pub further : ℕ → Outcome → Outcome
 further n o =
     outcome (listed o.listed.refusal (n + o.listed.taken) o.listed.written o.listed.listing) o.stage o.output
+
+-- the listing after a complete record, with a new parser
+abbrev pub after_record : Listing → Record → List ℕ → Listing
+after_record s r payload = listing_of parser.fresh (s.offset + (44 + r.length)) (opens s r payload)
+
+-- What a push of what is left of a piece needs, where so many bytes of it are taken: a sound listing, no byte behind reading's limit, and
+-- room for a line at the place.
+pub record Ready (s : Listing) (piece output : List ℕ) (taken at : ℕ) : Type 0 where
+  pub sound : sound_listing s ≡ true
+  pub within : taken ≤ length piece
+  pub read : read_of s + length piece ≤ limit + taken
+  pub room : at + line_room ≤ length output
 
 -- ---- a piece
 -- record by record, while bytes are left, the output has room for a line and nothing is refused; at most n pushes

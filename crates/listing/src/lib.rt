@@ -20,7 +20,7 @@ use wire::Refusal;
 use wire::errors::{Error, RecordError};
 
 // The record under way in its parser, its offset in the capture, and 01's open before it. Between
-// records the parser has no byte of a header, and of a refusal it has the number alone.
+// records the parser has no byte of a header, and the figures of an error that it keeps are 0.
 #[derive(Clone, Copy)]
 pub struct Listing {
     pub parser: RecordParser,
@@ -39,6 +39,7 @@ pub struct Listed {
 }
 
 // The line of names.
+#[tactic(auto, using(std::proofs::lemmas::Bool::Decides::nat_tests), unfolding(outer::specs::Outer::write, text::specs::Lines::put_text, wire::specs::Refusals::first))]
 pub fn names(output: &mut [u8]) -> Result<usize, Error>
     ensures { outer.outcome (outer.written result) output.new ≡ names_of output.old }
 {
@@ -52,10 +53,7 @@ pub fn names(output: &mut [u8]) -> Result<usize, Error>
 fn number(error: Option<RecordError>) -> u64
     ensures { result ≡ (refused error).number }
 {
-    match error {
-        Some(error) => Refusal::from(error).number,
-        None => 0,
-    }
+    error.map_or(0, |error| Refusal::from(error).number)
 }
 
 impl Listing {
@@ -71,17 +69,18 @@ impl Listing {
     }
 
     // Whether the value is one that a listing can have (23).
+    #[tactic(auto, unfolding(crate::specs::Steps::sound_listing, parser::specs::Push::counted))]
     pub fn is_sound(self) -> bool
         ensures { result ≡ sound_listing self }
     {
         let Ok(held) = self.parser.buffered() else {
             return false;
         };
-        let refused = number(self.parser.error);
-        is_settled(self.parser) && reached(self.offset, self.open, held as u64, refused)
+        is_settled(self.parser) && reached(self.offset, self.open, held as u64, self.parser.error)
     }
 
     // The last line.
+    #[tactic(auto, using(std::proofs::lemmas::Bool::Decides::nat_tests), unfolding(crate::specs::Steps::sound_listing, crate::specs::Steps::end_line, parser::specs::Push::counted, outer::specs::Outer::write, text::specs::Lines::put_text, wire::specs::Refusals::first))]
     pub fn end(self, output: &mut [u8]) -> Result<usize, Error>
         ensures { outer.outcome (outer.written result) output.new ≡ end_of self output.old }
     {

@@ -1,13 +1,13 @@
 // The link listing (01) made a piece at a time: the lines of the records that a piece completes.
-ghost use Rattle.std.specs.Prelude.{◌≡◌, true, Some, ◌+◌, ◌-◌, ◌^◌, ◌≤◌, ◌<◌, min, length, drop};
-ghost use Rattle.wire.specs.Bytes.{overlay};
+ghost use Rattle.std.specs.Prelude.{◌≡◌, true, ◌+◌, ◌-◌, ◌^◌, ◌≤◌, ◌<◌, min, length, drop};
 ghost use Rattle.wire.specs.Refusals.{verdict, first};
 ghost use Rattle.record.specs.Types.{code_of};
-ghost use Rattle.parser.specs.Push.{progressed};
+ghost use Rattle.text.specs.Decimal.{placed};
+ghost use Rattle.text.specs.Lines.{put_text};
 ghost use Rattle.listing.specs.Reach.{limit};
 ghost use Rattle.listing.specs.Settled.{settled};
 ghost use Rattle.listing.specs.Listing.{open_after};
-ghost use Rattle.listing.specs.Steps.{listing_of, read_of, sound_listing, listed, answered, line_of, record_listed, step_of, further, lines, list_rows, list_of, outcome};
+ghost use Rattle.listing.specs.Steps.{listing_of, read_of, sound_listing, listed, told, answered, line_of, after_record, Ready, step_of, further, lines, list_rows, list_of, outcome};
 
 use crate::reach::LIMIT;
 use crate::settle::settle;
@@ -15,7 +15,8 @@ use crate::{Listed, Listing};
 use outer::OUTER_MAX_PAYLOAD;
 use outer::payloads::value;
 use parser::push::push;
-use parser::{Complete, payload};
+use parser::{Pushed, RecordParser, payload};
+use record::Record;
 use record::types::RecordType;
 use text::lines::{LINE, Line};
 use wire::errors::Error;
@@ -32,117 +33,92 @@ fn still(listing: Listing, answer: Result<(), Error>) -> Listed
     }
 }
 
-// Open as it stands after a record of a type with a payload of `size` bytes. A CREDIT takes off its
-// value, or all of open if that is less.
+// Open as it stands after a record. A CREDIT takes off its value, or all of open if that is less.
 #[tactic(auto, unfolding(crate::specs::Listing::open_after))]
-fn open_after(open: u64, record_type: RecordType, size: usize, payload: &[u8]) -> u64
-    requires { «open» + size < 2 ^ 64 }
-    ensures { result ≡ open_after «open» (code_of record_type) size payload.now }
+fn open_after(open: u64, record: Record, payload: &[u8]) -> u64
+    requires { «open» + «record».length < 2 ^ 64 }
+    ensures { result ≡ open_after «open» (code_of «record».record_type) «record».length payload.now }
 {
-    match record_type {
+    match record.record_type {
         RecordType::Reset => 0,
-        RecordType::Data => open + size as u64,
-        RecordType::Credit => open.saturating_sub(value(payload) as u64),
+        RecordType::Data => open + record.length as u64,
+        RecordType::Credit => open.saturating_sub(value(payload).into()),
         _ => open,
     }
 }
 
-// A record is complete: its line, and the state after it. `before` is the listing before it with the
-// parser that the push left, and `taken` the bytes that the push took.
+// A record is complete: puts its line, and answers the place after it. The listing is then at the next
+// record, with a new parser.
+#[tactic(auto, unfolding(crate::specs::Steps::line_of))]
 fn record_line(
-    before: Listing,
-    taken: usize,
-    complete: Complete,
+    listing: &mut Listing,
+    record: Record,
     payload: &[u8],
     output: &mut [u8],
     at: usize,
-) -> Listed
-    requires { (at + 126 ≤ length output.old) × (before.«open» ≤ before.offset) × (before.offset + (44 + complete.«record».length) < 2 ^ 64) }
-    ensures { (answered result ≡ record_listed before (progressed (Some complete) taken before.parser) payload.now at) × (output.new ≡ overlay output.old at (line_of before complete.«record» payload.now)) }
+) -> usize
+    requires { (listing.old.«open» ≤ listing.old.offset) × (listing.old.offset + (44 + «record».length) < 2 ^ 64) }
+    ensures next { listing.new ≡ after_record listing.old «record» payload.now }
+    ensures line { placed result output.new ≡ put_text output.old at (line_of listing.old «record» payload.now) }
 {
-    let record = complete.record;
-    let open = open_after(before.open, record.record_type, record.length, payload);
+    let offset = listing.offset;
+    let open = open_after(listing.open, record, payload);
     let line = Line {
-        offset: before.offset,
-        code: record.record_type.code() as u64,
+        offset,
+        code: record.record_type.code().into(),
         epoch: record.epoch.0,
         sequence: record.sequence.0,
         size: record.length as u64,
         open,
     };
-    let written = line.put(output, at);
-    Listed {
-        answer: Ok(()),
-        taken,
-        written,
-        listing: Listing {
-            parser: settle(before.parser),
-            offset: before.offset + (44 + record.length as u64),
-            open,
-        },
-    }
+    listing.parser = RecordParser::new();
+    listing.offset = offset + (44 + record.length as u64);
+    listing.open = open;
+    line.put(output, at)
 }
 
-// No record is complete, so there is no line. `before` is the listing before the push with the parser
-// that it left.
-fn no_line(before: Listing, answer: Result<(), Error>, taken: usize, at: usize) -> Listed
-    ensures { answered result ≡ listed (verdict answer) taken at (listing_of (settled before.parser) before.offset before.«open») }
+// No record is complete, so there is no line: `parser` is what the push left.
+fn no_line(done: &mut Listed, answer: Result<(), Error>, parser: RecordParser) -> Result<(), Error>
+    ensures { told result done.new ≡ listed (verdict answer) done.old.taken done.old.written (listing_of (settled parser) done.old.listing.offset done.old.listing.«open») }
 {
-    Listed {
-        answer,
-        taken,
-        written: at,
-        listing: Listing {
-            parser: settle(before.parser),
-            ..before
-        },
-    }
+    done.listing.parser = settle(parser);
+    answer
 }
 
-// One push, and the line of the record that it completes. That the listing is sound and that there is
-// room is a condition of each step: listing, stage and output are the caller's.
-fn step(listing: Listing, piece: &[u8], stage: &mut [u8], output: &mut [u8], at: usize) -> Listed
-    requires { (sound_listing listing ≡ true) × (65536 ≤ length stage.old) × (at + 126 ≤ length output.old) × (read_of listing + length piece.now ≤ limit) }
-    ensures { outcome (answered result) stage.new output.new ≡ step_of listing piece.now stage.old output.old at }
+// One push, and the line of the record that it completes. Adds it to `done`; the caller stores its
+// answer.
+fn step(done: &mut Listed, piece: &[u8], stage: &mut [u8], output: &mut [u8]) -> Result<(), Error>
+    requires { Ready done.old.listing piece.now output.old done.old.taken done.old.written }
+    ensures { outcome (told result done.new) stage.new output.new ≡ further done.old.taken (step_of done.old.listing (drop done.old.taken piece.now) stage.old output.old done.old.written) }
 {
-    let pushed = push(listing.parser, piece, stage);
-    let before = Listing {
-        parser: pushed.parser,
-        ..listing
-    };
-    match pushed.answer {
-        Ok(progress) => match progress.complete {
-            Some(complete) => {
-                let bytes = payload(piece, stage, complete.place, complete.record.length);
-                record_line(before, progress.consumed, complete, bytes, output, at)
+    let rest = &piece[done.taken..];
+    let Pushed { answer, parser } = push(done.listing.parser, rest, stage);
+    match answer {
+        Ok(progress) => {
+            done.taken += progress.consumed;
+            match progress.complete {
+                Some(complete) => {
+                    let record = complete.record;
+                    let bytes = payload(rest, stage, complete.place, record.length);
+                    done.written = record_line(
+                        &mut done.listing,
+                        record,
+                        bytes,
+                        output,
+                        done.written,
+                    );
+                    Ok(())
+                }
+                None => no_line(done, Ok(()), parser),
             }
-            None => no_line(before, Ok(()), progress.consumed, at),
-        },
-        Err(error) => no_line(before, Err(error), 0, at),
-    }
-}
-
-// One push more: `done` is what was done before it.
-fn turn(done: Listed, piece: &[u8], stage: &mut [u8], output: &mut [u8]) -> Listed
-    requires { (sound_listing done.listing ≡ true) × (65536 ≤ length stage.old) × (done.written + 126 ≤ length output.old) × (read_of done.listing + length piece.now ≤ limit + done.taken) × (done.taken ≤ length piece.now) × (length piece.now ≤ limit) }
-    ensures { outcome (answered result) stage.new output.new ≡ further done.taken (step_of done.listing (drop done.taken piece.now) stage.old output.old done.written) }
-{
-    let r = step(
-        done.listing,
-        &piece[done.taken..],
-        stage,
-        output,
-        done.written,
-    );
-    Listed {
-        taken: done.taken + r.taken,
-        ..r
+        }
+        Err(error) => no_line(done, Err(error), parser),
     }
 }
 
 // Record by record, while bytes are left, nothing is refused and the output has room for a line.
 fn list_records(listing: Listing, piece: &[u8], stage: &mut [u8], output: &mut [u8]) -> Listed
-    requires { (sound_listing listing ≡ true) × (65536 ≤ length stage.old) × (126 ≤ length output.old) × (read_of listing + length piece.now ≤ limit) }
+    requires { Ready listing piece.now output.old 0 0 }
     ensures { outcome (answered result) stage.new output.new ≡ lines (length piece.now) listing piece.now stage.old output.old 0 0 }
 {
     let last = output.len() - LINE;
@@ -152,7 +128,7 @@ fn list_records(listing: Listing, piece: &[u8], stage: &mut [u8], output: &mut [
         if last < done.written {
             return done;
         }
-        done = turn(done, piece, stage, output);
+        done.answer = step(&mut done, piece, stage, output);
         if done.answer.is_err() {
             return done;
         }
@@ -161,10 +137,12 @@ fn list_records(listing: Listing, piece: &[u8], stage: &mut [u8], output: &mut [
 }
 
 // How many of `size` bytes more are read before reading ends.
+#[tactic(auto, using(std::proofs::lemmas::Bool::Decides::nat_tests), unfolding(crate::specs::Steps::sound_listing, parser::specs::Push::counted))]
 fn room(listing: Listing, size: usize) -> usize
     requires { sound_listing listing ≡ true }
     ensures { result ≡ min (limit - read_of listing) size }
 {
+    // A sound parser answers, so that the 0 is never given.
     let Ok(held) = listing.parser.buffered() else {
         return 0;
     };
@@ -172,6 +150,7 @@ fn room(listing: Listing, size: usize) -> usize
 }
 
 // What stops the listing of a piece: 23, 21, 22, or the error that ended the capture.
+#[tactic(auto, using(std::proofs::lemmas::Bool::Decides::nat_tests), unfolding(wire::specs::Refusals::first))]
 fn ready(listing: Listing, stage: &[u8], output: &[u8]) -> Result<(), Error>
     ensures { verdict result ≡ first (list_rows listing stage.now output.now) }
 {
@@ -184,22 +163,20 @@ fn ready(listing: Listing, stage: &[u8], output: &[u8]) -> Result<(), Error>
     if output.len() < LINE {
         return Err(Error::ShortOutput);
     }
-    match listing.parser.error {
-        Some(error) => Err(Error::Record(error)),
-        None => Ok(()),
-    }
+    listing.parser.latched()
 }
 
 // Takes the next piece of the capture, and writes the lines of the records that it completes at
 // the output's start, as many as fit. What is not taken is to be given again, unless reading
 // has ended. The stage is the parser's: payload bytes that come in several pieces lie in it.
+#[tactic(auto, using(std::proofs::lemmas::Bool::Decides::nat_tests, wire::proofs::Rows::refuses, std::proofs::lemmas::List::take_min, crate::proofs::Lines::list_ready), unfolding(crate::specs::Steps::list_of, wire::specs::Refusals::first))]
 pub fn list(listing: Listing, piece: &[u8], stage: &mut [u8], output: &mut [u8]) -> Listed
     ensures { outcome (answered result) stage.new output.new ≡ list_of listing piece.now stage.old output.old }
 {
     match ready(listing, stage, output) {
         Ok(()) => {
             let n = room(listing, piece.len());
-            list_records(listing, &piece[0..n], stage, output)
+            list_records(listing, &piece[..n], stage, output)
         }
         Err(error) => still(listing, Err(error)),
     }

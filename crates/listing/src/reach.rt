@@ -1,16 +1,18 @@
 // Whether the counts of a listing are those that some capture leaves.
 ghost use Rattle.std.specs.Prelude.{◌≡◌, ◌+◌, ◌≤◌, leb};
+ghost use Rattle.wire.specs.Refusals.{refused};
 ghost use Rattle.listing.specs.Reach.{limit, data_needed, others, adds_up, refused_bytes, reached};
+
+use wire::errors::RecordError;
 
 // Reading ends here as at the end of the input: 2^62 bytes.
 pub const LIMIT: u64 = 4611686018427387904;
 
 // The fewest DATA records that leave `open`.
 fn data_needed(open: u64) -> u64
-    requires { «open» ≤ limit }
     ensures { result ≡ data_needed «open» }
 {
-    (open + 65535) / 65536
+    open.div_ceil(65536)
 }
 
 // Whether other records can take `rest` bytes, where those DATA could carry `room` bytes more.
@@ -35,16 +37,15 @@ fn adds_up(offset: u64, open: u64) -> bool
     bytes <= offset && others(65536 * needed - open, offset - bytes)
 }
 
-// The bytes of a refused record that were read, by its number: 1 to 6 are the header's.
-#[tactic(auto, using(std::proofs::lemmas::Bool::Decides::nat_tests), unfolding(crate::specs::Reach::refused_bytes))]
-fn refused_bytes(number: u64) -> u64
-    ensures { result ≡ refused_bytes number }
+// The bytes of a refused record that were read: its header, or its header and its value.
+#[tactic(auto, unfolding(crate::specs::Reach::refused_bytes))]
+fn refused_bytes(error: Option<RecordError>) -> u64
+    ensures { result ≡ refused_bytes (refused error).number }
 {
-    match number {
-        0 => 0,
-        1..=6 => 44,
-        _ => 48,
-    }
+    error.map_or(0, |error| match error {
+        RecordError::ErrorCode(_) | RecordError::ReceiveWindow(_) | RecordError::Credit(_) => 48,
+        _ => 44,
+    })
 }
 
 // Whether at most 2^62 bytes were read.
@@ -56,9 +57,9 @@ fn within_limit(offset: u64, held: u64, refused: u64) -> bool
 }
 
 // Whether some capture leaves these counts: whole records of `offset` bytes that leave `open`, then
-// `held` bytes of a record under way, or a record refused by `number` (0: none).
-pub(crate) fn reached(offset: u64, open: u64, held: u64, number: u64) -> bool
-    ensures { result ≡ reached offset «open» held number }
+// `held` bytes of a record under way, or a record that was refused.
+pub(crate) fn reached(offset: u64, open: u64, held: u64, error: Option<RecordError>) -> bool
+    ensures { result ≡ reached offset «open» held (refused error).number }
 {
-    within_limit(offset, held, refused_bytes(number)) && adds_up(offset, open)
+    within_limit(offset, held, refused_bytes(error)) && adds_up(offset, open)
 }

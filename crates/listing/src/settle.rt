@@ -7,7 +7,6 @@ ghost use Rattle.listing.specs.Settled.{settled, number_only, is_settled};
 
 use outer::OUTER_HEADER_LEN;
 use parser::RecordParser;
-use wire::Refusal;
 use wire::errors::RecordError;
 
 // What a listing keeps of an error that ended the capture: which of 1 to 9 it is, its figures 0.
@@ -31,8 +30,9 @@ fn bare(error: RecordError) -> RecordError
     }
 }
 
-// What a listing keeps of a parser: between records no byte of a header, and of a refusal its
-// number alone.
+// What a listing keeps of a parser: between records no byte of a header, and an error with its
+// figures 0.
+#[tactic(auto, using(std::proofs::lemmas::Bool::Decides::nat_tests), unfolding(crate::specs::Settled::settled, parser::specs::Push::latch))]
 pub(crate) fn settle(parser: RecordParser) -> RecordParser
     ensures { result ≡ settled parser }
 {
@@ -45,18 +45,12 @@ pub(crate) fn settle(parser: RecordParser) -> RecordParser
     }
 }
 
-// Whether no more of an error is kept than its number: 01's record of it has zeros beside that.
-#[tactic(auto, unfolding(crate::specs::Settled::number_only))]
+// Whether the figures of an error are 0.
+#[tactic(auto, using(std::proofs::lemmas::Bool::Decides::nat_tests), unfolding(crate::specs::Settled::number_only, record::specs::Record::all_zero, parser::specs::Push::latch))]
 fn is_number(error: Option<RecordError>) -> bool
     ensures { result ≡ number_only (refused error) }
 {
-    match error {
-        Some(error) => {
-            let refusal = Refusal::from(error);
-            refusal == Refusal::new(refusal.number, 0, 0, 0)
-        }
-        None => true,
-    }
+    error == error.map(bare)
 }
 
 // Whether the bytes of a header are all zero from an index on.

@@ -3,7 +3,7 @@ use Prim.Native.Nat.{ℕ, ◌+◌, ◌-◌, ◌≤◌}
 use mathlib.Core.Path.{◌≡◌, refl, sym, ap, subst, ◌∙◌}
 use mathlib.Core.List.{List, [], ◌∷◌, ◌++◌, append-nil}
 use native.Mathlib.Omega.{arith}
-use lib.ListN.{length, take, drop, length-drop, drop_of_length-le}
+use lib.ListN.{length, take, drop, length-drop}
 use lib.Seq.{drop-drop}
 use Rattle.wire.proofs.PartLaws.{part_end}
 use Rattle.text.specs.Lines.{line_room}
@@ -14,7 +14,7 @@ use Rattle.listing.proofs.Bounds.{list_within}
 use Rattle.std.specs.Prelude.{Option, Some, None}
 use Rattle.std.specs.Io.KnownBytes.{Keeps, Consumes}
 use Rattle.nvxs_list.specs.Feeding.{Feeds}
-use Rattle.std.specs.declared.ops.ControlFlow.TheVariants.{Continue, Break}
+use Rattle.std.specs.declared.ops.ControlFlow.TheVariants.{Break}
 
 -- one more call
 calls_more : {s t : Listing} {stage input left after : List ℕ} {texts : List (List ℕ)} → Calls s stage input left t after texts → (piece rest output : List ℕ)
@@ -27,18 +27,16 @@ calls_more {s} {stage = stage} stop piece rest output e l =
 calls_more (call p r o k c) piece rest output e l = call p r o k (calls_more c piece rest output e l)
 
 -- what holds at the head of the loop
-pub record FedSoFar (s₀ : Listing) (piece stage₀ output₀ : List ℕ) (s : Listing) (stage output : List ℕ) (taken : ℕ) : Type 0 where
+pub record FedSoFar (s₀ : Listing) (piece stage₀ : List ℕ) (s : Listing) (stage : List ℕ) (taken : ℕ) : Type 0 where
   pub texts : List (List ℕ)
   pub calls : Calls s₀ stage₀ piece (drop taken piece) s stage texts
   pub within : taken ≤ length piece
-  pub stage_size : length stage ≡ length stage₀
-  pub output_size : length output ≡ length output₀
 
-pub fed_first : (s : Listing) (piece stage output : List ℕ) → FedSoFar s piece stage output s stage output 0
-fed_first s piece stage output = record { texts = []; calls = stop; within = omega arith; stage_size = refl; output_size = refl }
+pub fed_first : (s : Listing) (piece stage : List ℕ) → FedSoFar s piece stage s stage 0
+fed_first s piece stage = record { texts = []; calls = stop; within = omega arith }
 
-module _ {s₀ : Listing} {piece stage₀ output₀ : List ℕ} {s : Listing} {stage output : List ℕ} {taken : ℕ} (f : FedSoFar s₀ piece stage₀ output₀ s stage output taken)
-    (r : Listed) (after o2 : List ℕ) (room : 126 ≤ length output₀)
+module _ {s₀ : Listing} {piece stage₀ : List ℕ} {s : Listing} {stage : List ℕ} {taken : ℕ} (f : FedSoFar s₀ piece stage₀ s stage taken)
+    (r : Listed) (output after o2 : List ℕ)
     (e : outcome r after o2 ≡ list_of s (take (length piece - taken) (drop taken piece)) stage output) where
   told : outcome r after o2 ≡ list_of s (drop taken piece) stage output
   told = e ∙ ap (λ (x : List ℕ). list_of s x stage output) (part_end taken piece)
@@ -49,10 +47,10 @@ module _ {s₀ : Listing} {piece stage₀ output₀ : List ℕ} {s : Listing} {s
       let q : length (drop taken piece) ≡ length piece - taken = length-drop taken piece in
       omega (arith, f.within)
 
-  pub fed_more : length after ≡ length stage → length o2 ≡ length output → FedSoFar s₀ piece stage₀ output₀ r.listing after o2 (taken + r.taken)
-  fed_more ls lo =
+  pub fed_more : 126 ≤ length output → FedSoFar s₀ piece stage₀ r.listing after (taken + r.taken)
+  fed_more room =
       let x : List ℕ = drop taken piece in
-      let c = calls_more f.calls x [] output (sym (append-nil x)) (omega (arith, f.output_size)) in
+      let c = calls_more f.calls x [] output (sym (append-nil x)) room in
       let d : drop r.taken x ++ [] ≡ drop (taken + r.taken) piece = append-nil (drop r.taken x) ∙ drop-drop r.taken taken piece in
       record {
         texts = f.texts ++ (written (list_of s x stage output) ∷ []);
@@ -61,17 +59,12 @@ module _ {s₀ : Listing} {piece stage₀ output₀ : List ℕ} {s : Listing} {s
             (subst (λ (o : Outcome). Calls s₀ stage₀ piece (drop o.listed.taken x ++ []) o.listed.listing o.stage (f.texts ++ (written (list_of s x stage output) ∷ [])))
             (sym told) c);
         within = fed_within;
-        stage_size = ls ∙ f.stage_size;
-        output_size = lo ∙ f.output_size;
       }
 
-module _ {s₀ : Listing} {piece stage₀ output₀ : List ℕ} {s : Listing} {stage output : List ℕ} {taken : ℕ} (f : FedSoFar s₀ piece stage₀ output₀ s stage output taken) where
+module _ {s₀ : Listing} {piece stage₀ : List ℕ} {s : Listing} {stage : List ℕ} {taken : ℕ} (f : FedSoFar s₀ piece stage₀ s stage taken) where
   -- the ways out: it stops, or the piece is at its end
   pub feeds_stop : Feeds s₀ piece stage₀ (Break s) stage
   feeds_stop = record { left = drop taken piece; texts = f.texts; calls = f.calls; all = λ t e. cc }
-
-  pub feeds_all : length piece ≤ taken → Feeds s₀ piece stage₀ (Continue s) stage
-  feeds_all h = record { left = drop taken piece; texts = f.texts; calls = f.calls; all = λ _ _. drop_of_length-le piece {i = taken} h }
 
 -- where reading ended nothing was consumed, and nothing is handed on
 module _ (s : Listing) (buffer stage : List ℕ) (old new : Option (List ℕ)) where

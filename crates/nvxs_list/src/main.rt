@@ -1,7 +1,7 @@
 // Lists the records of a capture: standard input to standard output (01, "The link listing").
 #![tactic(auto)]
 
-ghost use Rattle.std.specs.Prelude.{◌≡◌, true, ◌≤◌, ◌<◌, ℕ, length, take};
+ghost use Rattle.std.specs.Prelude.{◌≡◌, true, ◌<◌, ℕ, take};
 ghost use Rattle.std.specs.Io.KnownBytes.{Consumes};
 ghost use Rattle.nvxs_list.specs.Feeding.{Feeds};
 
@@ -11,11 +11,15 @@ use std::io::{Read, Stdin};
 use std::ops::ControlFlow;
 use wire::errors::Error;
 
+// The bytes of the output, which has room for a line.
+const OUTPUT: usize = 65536;
+
 // The listing after a piece: `Continue` where there is more to read, and `Break` after a refusal, at
 // the end of reading, or where the output is closed.
 type Fed = ControlFlow<Listing, Listing>;
 
-// Writes the text, and answers whether all of it went out.
+// Writes the text, and answers whether all of it went out. By the kit's own call: std's output is a
+// handle, which `read_all`, `read_once` (then of six parameters) and `feed` would only hand on.
 fn flush(text: Option<&[u8]>) -> bool {
     text.is_some_and(|text| io::write_all(1, text))
 }
@@ -28,10 +32,8 @@ fn goes_on(out: bool, answer: Result<(), Error>, taken: usize) -> bool
     out && answer.is_ok() && 0 < taken
 }
 
-// A piece, listed and written as often as it takes. The output is a slice with room for a line, as
-// `list` has it, in each function down to the call.
-fn feed(start: Listing, piece: &[u8], stage: &mut [u8], output: &mut [u8]) -> Fed
-    requires { 126 ≤ length output.old }
+// A piece, listed and written as often as it takes.
+fn feed(start: Listing, piece: &[u8], stage: &mut [u8], output: &mut [u8; OUTPUT]) -> Fed
     ensures { Feeds start piece.now stage.old result stage.new }
 {
     let mut listing = start;
@@ -50,17 +52,18 @@ fn feed(start: Listing, piece: &[u8], stage: &mut [u8], output: &mut [u8]) -> Fe
 }
 
 // Reads once and lists all that came. A read that fails is the end of the input.
+#[tactic(auto, using(crate::proofs::Feeding::feeds_end, crate::proofs::Feeding::feeds_failed))]
 fn read_once<R: Read>(
     input: &mut R,
     listing: Listing,
     buffer: &mut [u8],
     stage: &mut [u8],
-    output: &mut [u8],
+    output: &mut [u8; OUTPUT],
 ) -> Fed
-    requires { 126 ≤ length output.old }
     ensures { (n : ℕ) × Consumes (R.remaining input.old) (R.remaining input.new) (take n buffer.new) × Feeds listing (take n buffer.new) stage.old result stage.new }
 {
     let Ok(count) = input.read(buffer) else {
+        // By the same call, for the same reason.
         io::write_all(2, b"nvxs_list: standard input cannot be read\n");
         return ControlFlow::Break(listing);
     };
@@ -72,9 +75,7 @@ fn read_once<R: Read>(
 
 // Reads to the end, and lists. Each turn but the last reads a byte or more, so that LIMIT turns are
 // enough.
-fn read_all(mut input: Stdin, output: &mut [u8]) -> Listing
-    requires { 126 ≤ length output.old }
-{
+fn read_all(mut input: Stdin, output: &mut [u8; OUTPUT]) -> Listing {
     let mut stage = [0u8; 65536];
     let mut buffer = [0u8; 262144];
     let mut listing = Listing::new();
@@ -88,7 +89,7 @@ fn read_all(mut input: Stdin, output: &mut [u8]) -> Listing
 }
 
 fn main(rt: HostRuntime) {
-    let mut output = [0u8; 65536];
+    let mut output = [0u8; OUTPUT];
     let Ok(first) = names(&mut output) else {
         return;
     };

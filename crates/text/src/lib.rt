@@ -10,6 +10,7 @@ ghost use Rattle.text.specs.Decimal.{number, spaced, Puts};
 pub const NUMBER_ROOM: usize = 21;
 
 // Puts text, and answers the place after it.
+#[tactic(auto, using(crate::proofs::Puts::part_puts))]
 pub(crate) fn put(output: &mut [u8], at: usize, text: &[u8]) -> usize
     requires { at + length text.now ≤ length output.old }
     ensures { Puts output.old at text.now result output.new }

@@ -55,6 +55,7 @@ pub fn put_ending(output: &mut [u8], offset: u64, refusal: u64, unfinished: u64)
 }
 
 // The line of names, at the start of the buffer.
+#[tactic(auto, using(std::proofs::lemmas::Bool::Decides::nat_tests), unfolding(crate::specs::Lines::put_text, crate::specs::Lines::names))]
 pub fn put_names(output: &mut [u8]) -> usize
     ensures { placed result output.new ≡ put_text output.old 0 names }
 {

@@ -4,7 +4,7 @@ use Rattle.nvxs_list.proofs.Feeding.{FedSoFar}
 use Rattle.nvxs_list.proofs.feed.Given as goal
 
 abbrev pub invariant-loop-taken : goal.invariant-loop-taken
-invariant-loop-taken l = FedSoFar l.initial.listing l.piece l.initial.stage l.initial.output l.listing l.stage l.output l.taken
+invariant-loop-taken l = FedSoFar l.initial.listing l.piece l.initial.stage l.listing l.stage l.taken
 
 abbrev pub decreases-loop-taken : goal.decreases-loop-taken
 decreases-loop-taken l = length l.piece - l.taken
