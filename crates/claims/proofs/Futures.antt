@@ -23,7 +23,6 @@ use Rattle.parser.specs.Push.{sound_parser, Push, push, head_with, push_stage, p
 use Rattle.parser.specs.declared.RecordParser.{RecordParser}
 use Rattle.parser.specs.Push.{Pushed}
 use Rattle.parser.proofs.Cases.{sound_empty}
-use Rattle.wire.proofs.PartLaws.{overlay_nothing}
 use Rattle.claims.specs.Reading.{Ready}
 use Rattle.claims.proofs.Scans.{Scan, unfinished, whole, refused, scan}
 use Rattle.claims.proofs.Records.{code_is}
@@ -33,6 +32,7 @@ use Rattle.claims.proofs.Stream.{completed_ready, completed_empty}
 use Rattle.claims.proofs.Feeds.{Placed, bytes_in, matches, placed_next, bytes_next, payload_next}
 use Rattle.text.specs.Decimal.{Puts}
 use Rattle.text.proofs.Digits.{number_length}
+use Rattle.text.proofs.Puts.{spaced_none}
 use Rattle.text.specs.Lines.{line, ending}
 use Rattle.listing.specs.Reach.{limit}
 use Rattle.listing.specs.Listing.{open_after, lines_from}
@@ -75,9 +75,6 @@ pub record Writes (s : Listing) (stage piece output : List ℕ) (at : ℕ) (o : 
   pub good : Good o.listed.listing o.stage
   pub clear : passes o.listed.refusal ≡ true → passes (latched o.listed.listing.parser) ≡ true
   pub law : (rest : List ℕ) → text ++ future o.listed.listing o.stage (drop o.listed.taken piece ++ rest) ≡ future s stage (piece ++ rest)
-
-pub puts_none : (d : List ℕ) (at : ℕ) → at ≤ length d → Puts d at [] at d
-puts_none d at l = record { next = omega arith; within = l; bytes = sym (overlay_nothing d at) }
 
 line_length : (a b c d e f : ℕ) → length (line a b c d e f) ≤ 126
 unfolding line
@@ -182,7 +179,7 @@ module _ (s : Listing) (stage piece output : List ℕ) (at : ℕ) (good : Good s
       subst (Writes s stage piece output at) (sym e)
       (record {
         text = [];
-        puts = puts_none output at (omega arith);
+        puts = spaced_none output at (omega arith);
         good = record { sound = w.sound; room = r.room; ready = λ _. settled_ready a.parser after r.ready };
         clear = λ _. settled_passes a.parser push_sound_lem ∙ t.ready.clear;
         law = λ rest.
@@ -206,7 +203,7 @@ module _ (s : Listing) (stage piece output : List ℕ) (at : ℕ) (good : Good s
       subst (Writes s stage piece output at) (sym e)
       (record {
         text = [];
-        puts = puts_none output at (omega arith);
+        puts = spaced_none output at (omega arith);
         good = record { sound = w.sound; room = omega (arith, staged.same_length, good.room); ready = λ q. true_not_false (sym q ∙ settled_passes a.parser push_sound_lem ∙ off) };
         clear = λ q. true_not_false (sym q ∙ ap (λ (y : Refusal). passes y) t.refusal ∙ t.numbered);
         law = λ rest.

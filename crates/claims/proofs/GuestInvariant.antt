@@ -1,8 +1,8 @@
 -- What every session of a list of calls satisfies (`Invariant`): it is sound, its parser's header is 44 bytes, and no error is latched
 -- unless it has Failed. So it can receive whatever stage of 65,536 bytes or more is lent. Assumes nothing.
 use Prim.Native.Nat.{ℕ, ◌≤◌}
-use mathlib.Core.Path.{◌≡◌, refl}
-use mathlib.Core.Bool.{Bool, true, false, not, ◌||◌}
+use mathlib.Core.Path.{◌≡◌}
+use mathlib.Core.Bool.{true, false}
 use mathlib.Core.List.{List}
 use native.Mathlib.Omega.{arith}
 use lib.ListN.{length, length-take}
@@ -21,7 +21,7 @@ use Rattle.guest_core.specs.declared.GuestState.{GuestState}
 use Rattle.guest_core.specs.declared.GuestSession.{GuestSession}
 use Rattle.claims.specs.Reading.{Ready}
 use Rattle.claims.proofs.Records.{length_low}
-use Rattle.claims.proofs.Outcomes.{Part, in_head, in_body, part_of}
+use Rattle.claims.proofs.Outcomes.{unless, Part, in_head, in_body, part_of}
 
 -- ---- states
 not_failed : (s : GuestState) → (code s ≡ 5 → ⊥) → is_failed s ≡ false
@@ -65,10 +65,6 @@ pub record Invariant (g : GuestSession) : Type 0 where
   pub limits : Limits g
   pub idle : is_resetting g.state ≡ true → g.window ≡ 0
   pub named : is_live g.state ≡ true → holds g.identity ≡ true
-
-unless : (a b : Bool) → (a ≡ true → b ≡ true) → not a || b ≡ true
-unless true b f = f refl
-unless false b f = refl
 
 pub invariant_sound : (g : GuestSession) → Invariant g → sound_guest g ≡ true
 unfolding sound_guest

@@ -10,6 +10,7 @@ use lib.ListN.{length, take, length-append}
 use lib.Pointwise.{bytes_decides}
 use lib.Seq.{drop_at, take_all}
 use borrow.Author.Tests.{eqb-true, ltb-true}
+use Rattle.std.proofs.lemmas.List.{nil_from_length}
 use Rattle.wire.specs.Bytes.{Octets}
 use Rattle.wire.specs.Header.{type_of, instance_of, epoch_of, sequence_of, length_of}
 use Rattle.wire.proofs.Rows.{Passed}
@@ -28,7 +29,6 @@ use Rattle.claims.specs.GuestHistory.{Transcript, last44, data_bytes, handed_byt
 use Rattle.claims.specs.GuestClaims.{IsReset, Start}
 use Rattle.claims.proofs.Scans.{unfinished, whole}
 use Rattle.claims.proofs.Records.{checks_passed, code_is, encoded_back}
-use Rattle.claims.proofs.Outcomes.{nil}
 use Rattle.claims.proofs.GuestEffects.{PushFacts}
 
 -- ---- lists
@@ -83,7 +83,7 @@ module _ {g : GuestSession} {z piece : List ℕ} {u : Push} {h y : List ℕ} (t 
   reset_empty q =
       let k : length_ok (type_of h) (length_of h) ≡ true = (checks_passed h t.matches.checked).1.1.1.1.0 in
       let n : length_ok 3 (length_of h) ≡ true = ap (λ (x : ℕ). length_ok x (length_of h)) (sym (type_is 3 q)) ∙ k in
-      nil y (t.matches.full ∙ eqb-true (length_of h) 0 n)
+      nil_from_length y (t.matches.full ∙ eqb-true (length_of h) 0 n)
 
   -- a RESET accepted is the one that the session goes on from
   pub reset_continues : code_of u.answer.«record».record_type ≡ 3 → Continues h [] (identity_of u.answer.«record») (u.answer.«record».sequence.0 + 1)

@@ -2,7 +2,7 @@
 -- to Attached, whose rows ask for an identity. The stage plays no part. Assumes nothing.
 use Prim.Native.Nat.{ℕ}
 use mathlib.Core.Path.{◌≡◌, refl, sym, subst}
-use mathlib.Core.Bool.{Bool, true, false, not, ◌||◌}
+use mathlib.Core.Bool.{true}
 use mathlib.Core.List.{List, [], ◌∷◌}
 use lib.ListN.{length}
 use lib.Dec.{eqb}
@@ -23,17 +23,13 @@ use Rattle.host.specs.declared.HostSession.{HostSession}
 use Rattle.host.specs.Calls.{Closed}
 use Rattle.claims.specs.HostCalls.{HostCall, attach, receive_short, send, disconnect, ask_state, ask_identity, ask_needed, HostPlace, step, next, after, fresh_place}
 use Rattle.claims.specs.HostCalls as Call
-use Rattle.claims.proofs.Outcomes.{true_not_false}
+use Rattle.claims.proofs.Outcomes.{true_not_false, unless}
 use Rattle.claims.proofs.ParserSound.{push_sound_lem}
 
 -- what soundness says, in two parts
 pub record Fit (h : HostSession) : Type 0 where
   pub parser : sound_parser h.parser ≡ true
   pub named : is_attached h.state ≡ true → holds h.identity ≡ true
-
-unless : (a b : Bool) → (a ≡ true → b ≡ true) → not a || b ≡ true
-unless true b f = f refl
-unless false b f = refl
 
 pub fit_sound : (h : HostSession) → Fit h → sound_host h ≡ true
 unfolding sound_host

@@ -1,6 +1,7 @@
 -- The stream of a host. As long as it has not Failed, the bytes that it took read as the records that it reported, each with the sequence
 -- due, and its state is the one to which they led (`Followed`). Each call keeps it so. Assumes nothing.
 use Prim.Native.Nat.{ℕ, ◌+◌, ◌^◌, ◌≤◌, ◌<◌}
+use Rattle.std.proofs.lemmas.List.{nil_from_length}
 use Rattle.std.specs.Prelude.{Option, Some}
 use mathlib.Core.Path.{◌≡◌, refl, sym, ap, subst, ◌∙◌}
 use mathlib.Core.Bool.{Bool, true, false, not, ◌&&◌, ◌||◌}
@@ -38,7 +39,7 @@ use Rattle.claims.specs.HostStream.{Phase, attaching, attached, ended, Leads, le
 use Rattle.claims.specs.HostStream.{PieceBytes, AllBytes, HostStreamExact}
 use Rattle.claims.proofs.Octets.{octets_append, octets_take}
 use Rattle.claims.proofs.Scans.{Scan, unfinished, whole, refused, scan, scan_short}
-use Rattle.claims.proofs.Outcomes.{picked₂, true_not_false, nil, Matches}
+use Rattle.claims.proofs.Outcomes.{picked₂, true_not_false, Matches}
 use Rattle.claims.proofs.Readings.{within, Reads, ends_within, reads_on}
 use Rattle.claims.proofs.Feeds.{Placed, bytes_in, matches, placed_next, fresh_ready}
 use Rattle.claims.proofs.Stages.{push_staged}
@@ -339,7 +340,7 @@ module _ (l : HostLog) (h : HostSession) (stage : List ℕ) (k : Follows l h sta
       (λ z _.
       let f = k (not_failed h.state 2 (leb-true (code h.state) 2 b) (omega arith)) in
       let e : length (bytes_in h.parser stage) ≡ 0 = held_length h.parser (held_in h.parser stage) f.placed.ready ∙ eqb-true (buffered_of h.parser) 0 z in
-      moved f State.Closed h.send_sequence (stopped refl (nil (bytes_in h.parser stage) e)))
+      moved f State.Closed h.send_sequence (stopped refl (nil_from_length (bytes_in h.parser stage) e)))
       (λ _ x. true_not_false x))
       (λ _. k))
       (λ _. k)

@@ -2,8 +2,8 @@
 -- outcomes of a push, each with all that is known there: it waits, completes a record, or fails. Assumes nothing.
 use Prim.Native.Nat.{ℕ, ◌≤◌, ◌<◌}
 use mathlib.Core.Path.{◌≡◌, refl, ap, ◌∙◌}
-use mathlib.Core.Bool.{Bool, true, false}
-use mathlib.Core.List.{List, [], ◌∷◌, ◌++◌}
+use mathlib.Core.Bool.{Bool, true, false, not, ◌||◌, true≢false}
+use mathlib.Core.List.{List, [], ◌++◌}
 use native.Mathlib.Omega.{arith}
 use lib.ListN.{length, take, length-append, length-take}
 use lib.Seq.{take_all}
@@ -27,11 +27,12 @@ picked₂ P true f g = f refl
 picked₂ P false f g = g refl
 
 pub true_not_false : {A : Type 0} → true ≡ false → A
-true_not_false e = let z : ◌≡◌ {A = ℕ} 0 1 = cc in absurd (omega arith)
+true_not_false e = absurd (true≢false e)
 
-pub nil : (l : List ℕ) → length l ≡ 0 → l ≡ []
-nil [] e = refl
-nil (x ∷ xs) e = let z : ◌≡◌ {A = ℕ} 0 1 = omega arith in cc
+-- what holds where a test passes
+pub unless : (a b : Bool) → (a ≡ true → b ≡ true) → not a || b ≡ true
+unless true b f = f refl
+unless false b f = refl
 
 -- ---- soundness
 -- in the header, or in the payload under a header that passes

@@ -1,5 +1,5 @@
 -- A push leaves a sound parser sound, whatever stage it is lent. What it latches comes from the header checks or the payload checks, whose
--- numbers are 1 to 9 (`low_first`). Assumes nothing.
+-- numbers are 1 to 9. Assumes nothing.
 use Prim.Native.Nat.{ℕ, ◌+◌, ◌<◌}
 use mathlib.Core.Path.{◌≡◌, refl}
 use mathlib.Core.Bool.{true}

@@ -10,6 +10,7 @@ use lib.ListN.{length, take, drop, length-append, length-take, length-drop, take
 use lib.Seq.{take_all, take-add, take-append-add}
 use lib.Dec.{eqb}
 use borrow.Author.Tests.{lt-ltb, le-ltb, le-leb}
+use Rattle.std.proofs.lemmas.List.{nil_from_length}
 use Rattle.wire.specs.Bytes.{overlay}
 use Rattle.wire.specs.Refusals.{pick, first, passes}
 use Rattle.wire.specs.Header.{type_of, length_of}
@@ -23,7 +24,7 @@ use Rattle.parser.specs.declared.Place.TheVariants.{Piece, Stage}
 use Rattle.claims.specs.Reading.{held_bytes, Ready}
 use Rattle.claims.proofs.Scans.{scan, scan_value, scan_body, scan_header, scan_short, scan_cut}
 use Rattle.parser.proofs.Latches.{header_low, header_latches, payload_low, payload_latches}
-use Rattle.claims.proofs.Outcomes.{picked₂, nil, Part, in_head, in_body, part_low, ready_part, part_ready, Pending, Matches}
+use Rattle.claims.proofs.Outcomes.{picked₂, Part, in_head, in_body, part_low, ready_part, part_ready, Pending, Matches}
 
 regroup : (a b t d h : List ℕ) → b ++ t ≡ t ++ b → h ≡ a ++ t → (a ++ b) ++ (t ++ d) ≡ h ++ (b ++ d)
 regroup a b t d h q e =
@@ -75,7 +76,7 @@ module _ (head : List ℕ) (hl k : ℕ) (held piece : List ℕ) (size : length h
   swap = go part
     where
       go : Part head hl k → held ++ take n piece ≡ take n piece ++ held
-      go (in_head x y) = rw (nil held (count ∙ y)) (sym (append-nil (take n piece)))
+      go (in_head x y) = rw (nil_from_length held (count ∙ y)) (sym (append-nil (take n piece)))
       go (in_body x c y) = rw (none_taken x) (append-nil held)
 
   pub fits : k ≤ length_of H
@@ -201,7 +202,7 @@ module _ (head : List ℕ) (hl k : ℕ) (held piece : List ℕ) (size : length h
             header = refl;
             ready = part_ready [] (in_head l refl) H-size refl;
             joins = append-nil (take (hl + n) H) ∙ H-front ∙ ap (λ (x : List ℕ). take hl head ++ x) (take_all n piece (omega arith))
-                ∙ rw (nil held (count ∙ y)) (ap (λ (x : List ℕ). x ++ piece) (sym (append-nil (take hl head))));
+                ∙ rw (nil_from_length held (count ∙ y)) (ap (λ (x : List ℕ). x ++ piece) (sym (append-nil (take hl head))));
           }
 
   head_matches : Matches b piece H (push_head head hl k held piece) (scan (b ++ piece))

@@ -16,7 +16,7 @@ use Rattle.wire.specs.declared.Refusal.{Refusal}
 use Rattle.wire.proofs.Rows.{picked, and_right}
 use Rattle.claims.proofs.Outcomes.{true_not_false}
 use Rattle.text.specs.Decimal.{Puts}
-use Rattle.text.proofs.Puts.{puts_length, puts_then, put_first}
+use Rattle.text.proofs.Puts.{puts_length, puts_then, put_first, spaced_none}
 use Rattle.text.specs.Lines.{line_room}
 use Rattle.listing.specs.Reach.{limit}
 use Rattle.listing.specs.Steps.{read_of, sound_listing, Outcome, step_of, lines, list_rows, readable, list_of}
@@ -25,7 +25,7 @@ use Rattle.listing.specs.declared.Listing.{Listing}
 use Rattle.listing.proofs.Cases.{facts, Stepped, stepped}
 use Rattle.listing.proofs.Bounds.{lines_within}
 use Rattle.claims.specs.Claims.{joined}
-use Rattle.claims.proofs.Futures.{future, Good, Writes, puts_none, writes}
+use Rattle.claims.proofs.Futures.{future, Good, Writes, writes}
 
 -- from `taken` bytes of a piece on
 record Run (s : Listing) (stage piece output : List ℕ) (taken at : ℕ) (o : Outcome) : Type 0 where
@@ -39,7 +39,7 @@ stays : (s : Listing) (stage piece output : List ℕ) (taken at : ℕ) → Good 
 stays s stage piece output taken at g l o ew eo es et ek =
     record {
       text = [];
-      puts = subst (λ (n : ℕ). Puts output at [] n o.output) (sym ew) (subst (Puts output at [] at) (sym eo) (puts_none output at l));
+      puts = subst (λ (n : ℕ). Puts output at [] n o.output) (sym ew) (subst (Puts output at [] at) (sym eo) (spaced_none output at l));
       good = subst (λ (x : Listing). Good x o.stage) (sym es) (subst (Good s) (sym et) g);
       law = λ rest. λ i. future (es i) (et i) (drop (ek i) piece ++ rest);
     }
