@@ -16,8 +16,7 @@ impl Run {
     // One receive of the front of a piece, and how many bytes it took.
     fn receive(&mut self, piece: &[u8], whole: bool, stage: &mut [u8]) -> usize {
         let done = guest::receive(self.guest, piece, stage);
-        self.guest = done.session;
-        let Ok(received) = done.answer else {
+        let Ok(received) = done.store(&mut self.guest) else {
             return 0;
         };
         if let Some(GuestEvent::Data { place, length }) = received.event {

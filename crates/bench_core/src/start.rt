@@ -4,15 +4,14 @@ use parser::RecordParser;
 use session::Identity;
 use wire::{Epoch, Sequence};
 
-// The identity's instance and epoch, and the guest's window.
+// The instance of the identity that both ends have.
 pub const INSTANCE: [u8; 16] = [17; 16];
-
+// Its epoch.
 pub const EPOCH: u64 = 7;
-
+// The guest's window: 4 MiB.
 pub const WINDOW: u32 = 4194304;
 
 // A guest that has acknowledged a RESET of sequence 0.
-// Internal: serves the benchmark.
 pub fn active_guest() -> GuestSession {
     GuestSession {
         parser: RecordParser::new(),

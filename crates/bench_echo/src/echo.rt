@@ -43,8 +43,7 @@ impl Link {
         let next = sent.answer.ok()?.next;
         let amount = u32::try_from(bytes.len()).ok()?;
         let credited = guest::credit(sent.session, amount, reply, next);
-        self.guest = credited.session;
-        Some(credited.answer.ok()?.next)
+        Some(credited.store(&mut self.guest).ok()?.next)
     }
 
     // The relay reads the guest's DATA, writes it with another sequence and reads the CREDIT, and
@@ -76,9 +75,8 @@ impl Link {
 
     // The host receives the echo.
     fn take(&mut self, wire: &[u8], whole: bool, stage: &mut [u8]) -> Option<()> {
-        let received = host::receive(self.host, wire, stage);
-        self.host = received.session;
-        let Some(HostEvent::Data { place, length }) = received.answer.ok()?.event else {
+        let received = host::receive(self.host, wire, stage).store(&mut self.host);
+        let Some(HostEvent::Data { place, length }) = received.ok()?.event else {
             return None;
         };
         let echo = host::payload(wire, stage, place, length);
@@ -97,9 +95,8 @@ impl Link {
         wire: &mut [u8],
         reply: &mut [u8],
     ) -> Option<()> {
-        let sent = host::send(self.host, message, wire, 0);
-        self.host = sent.session;
-        let end = self.answer(wire.get(..sent.answer.ok()?.next)?, stage, reply)?;
+        let sent = host::send(self.host, message, wire, 0).store(&mut self.host);
+        let end = self.answer(wire.get(..sent.ok()?.next)?, stage, reply)?;
         let end = self.relay(sequence, reply.get(..end)?, stage, wire)?;
         self.take(wire.get(..end)?, whole, stage)
     }

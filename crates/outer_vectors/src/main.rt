@@ -17,7 +17,6 @@ fn main(rt: HostRuntime) -> io::Result<()> {
     records::limits(&rt)?;
     headers::wrong(&rt)?;
     headers::lengths(&rt)?;
-    pairs::windows(&rt)?;
-    pairs::credits(&rt)?;
+    pairs::values(&rt)?;
     pairs::lengths(&rt)
 }

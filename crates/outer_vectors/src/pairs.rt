@@ -54,16 +54,11 @@ impl Pair {
     }
 }
 
-// Both ends of a window's range, and the next beyond each.
-pub fn windows(rt: &impl Print) -> io::Result<()> {
+// Both ends of a window's range, and the next beyond each; then the same of a credit.
+pub fn values(rt: &impl Print) -> io::Result<()> {
     for window in [65535, 65536, 4194314, 4194315] {
         Pair::Ack.there_and_back(rt, window)?;
     }
-    Ok(())
-}
-
-// The same of a credit.
-pub fn credits(rt: &impl Print) -> io::Result<()> {
     for bytes in [0, 1, 4194314, 4194315] {
         Pair::Credit.there_and_back(rt, bytes)?;
     }

@@ -71,7 +71,8 @@ impl<'a> fmt::Display for Shown<'a> {
     }
 }
 
-// The fields of a record as its header holds them.
+// The fields of a record as its header holds them. Both types are other crates', so that this is no
+// `From`.
 fn header_of(record: Record) -> OuterHeader {
     let instance_id = record.instance_id;
     OuterHeader {

@@ -1,5 +1,4 @@
 // For each type the payload lengths that it allows and their neighbours; others give 5.
-
 use crate::records::Case;
 use record::types::RecordType;
 use std::io;

@@ -12,9 +12,7 @@ use std::io;
 
 fn main(rt: HostRuntime) -> io::Result<()> {
     lengths::every_type(&rt)?;
-    values::windows(&rt)?;
-    values::credits(&rt)?;
-    values::errors(&rt)?;
+    values::every_value(&rt)?;
     headers::wrong(&rt)?;
     headers::identities(&rt)?;
     streams::all_ones(&rt)?;

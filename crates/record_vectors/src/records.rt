@@ -1,7 +1,7 @@
 // One record through the encoder and through a parser.
 ghost use Rattle.std.specs.Prelude.{◌≤◌};
 
-use crate::answers::{Answer, Counts, Encoded};
+use crate::answers::{Answer, Counts, Encoded, taken};
 use outer::{OuterHeader, put_record};
 use parser::RecordParser;
 use parser::push::push;
@@ -102,31 +102,31 @@ impl<'a> Case<'a> {
     }
 }
 
-// Bytes in pieces of `n` to a new parser until a record is complete or refused, on a line.
+// Bytes in pieces of `n` to a new parser until a record is complete or refused, on a line. That n is
+// not 0 is what `chunks` asks for.
 pub fn in_pieces(rt: &impl Print, bytes: &[u8], n: usize) -> io::Result<()>
     requires { 1 ≤ n }
 {
     print!(rt; " in pieces of {n}: ")?;
     let mut stage = [0xAAu8; 65536];
     let mut parser = RecordParser::new();
-    let mut taken: usize = 0;
+    let mut count: usize = 0;
     for piece in bytes.chunks(n) {
         let pushed = push(parser, piece, &mut stage);
         parser = pushed.parser;
-        let progress = pushed.answer.ok();
-        taken = taken.saturating_add(progress.map_or(0, |p| p.consumed));
-        if progress.is_none_or(|p| p.complete.is_some()) {
-            let stage = &stage;
-            return println!(rt;
-                "{}",
-                Answer {
-                    pushed,
-                    taken,
-                    piece,
-                    stage
-                }
-            );
+        count = count.saturating_add(taken(pushed));
+        if pushed
+            .answer
+            .map_or(true, |progress| progress.complete.is_some())
+        {
+            let answer = Answer {
+                pushed,
+                taken: count,
+                piece,
+                stage: &stage,
+            };
+            return println!(rt; "{answer}");
         }
     }
-    println!(rt; "taken {taken} no record {}", Counts(parser))
+    println!(rt; "taken {count} no record {}", Counts(parser))
 }

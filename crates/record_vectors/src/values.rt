@@ -3,31 +3,18 @@ use crate::records::Case;
 use record::types::RecordType;
 use std::io;
 
-// A record of a type with a number for its payload, in pieces that end within header and payload.
-fn value(rt: &impl Print, record_type: RecordType, number: u32) -> io::Result<()> {
-    Case::new(record_type, &number.to_le_bytes()).there_and_back(rt, 23)
-}
-
-// M2, M3: both ends of a window's range, and the next beyond each.
-pub fn windows(rt: &impl Print) -> io::Result<()> {
-    for window in [65535, 65536, 4194314, 4194315] {
-        value(rt, RecordType::Ack, window)?;
+// Records of a type with a number for their payload, in pieces that end within header and payload.
+fn values(rt: &impl Print, record_type: RecordType, numbers: &[u32]) -> io::Result<()> {
+    for number in numbers {
+        Case::new(record_type, &number.to_le_bytes()).there_and_back(rt, 23)?;
     }
     Ok(())
 }
 
-// The same of a credit.
-pub fn credits(rt: &impl Print) -> io::Result<()> {
-    for bytes in [0, 1, 4194314, 4194315] {
-        value(rt, RecordType::Credit, bytes)?;
-    }
-    Ok(())
-}
-
-// The one error value, and its neighbours.
-pub fn errors(rt: &impl Print) -> io::Result<()> {
-    for code in [0, 1, 2] {
-        value(rt, RecordType::Error, code)?;
-    }
-    Ok(())
+// M2, M3: both ends of a window's range, and the next beyond each; the same of a credit; the one
+// error value, and its neighbours.
+pub fn every_value(rt: &impl Print) -> io::Result<()> {
+    values(rt, RecordType::Ack, &[65535, 65536, 4194314, 4194315])?;
+    values(rt, RecordType::Credit, &[0, 1, 4194314, 4194315])?;
+    values(rt, RecordType::Error, &[0, 1, 2])
 }

@@ -104,8 +104,9 @@ pub struct Answer {
 impl Answer {
     // The answer of an operation that writes: what stands in the output from `at` on.
     pub fn wrote(sent: Result<Sent, Error>, at: usize) -> Answer {
-        match sent {
-            Ok(sent) => Answer {
+        sent.map_or_else(
+            Answer::from,
+            |sent| Answer {
                 count: sent.count as u64,
                 next: sent.next as u64,
                 written: Part::Memory {
@@ -114,19 +115,18 @@ impl Answer {
                 },
                 ..Answer::default()
             },
-            Err(error) => Answer::from(error),
-        }
+        )
     }
 
     // The answer of a receive: its event, and the bytes that it took.
     pub fn received<E: Into<Answer>>(received: Result<Received<E>, Error>) -> Answer {
-        match received {
-            Ok(Received { consumed, event }) => Answer {
-                count: consumed as u64,
-                ..event.map_or(Answer::default(), E::into)
+        received.map_or_else(
+            Answer::from,
+            |received| Answer {
+                count: received.consumed as u64,
+                ..received.event.map_or(Answer::default(), E::into)
             },
-            Err(error) => Answer::from(error),
-        }
+        )
     }
 
     // Appends the answer's bytes: head, payload, written bytes, state.

@@ -78,7 +78,8 @@ impl Bytes for RecordParser {
     }
 }
 
-// What both sessions have, but for the state, of which each has its own type.
+// What both sessions have, but for the state, of which each has its own type. Each fills it in from
+// its own fields: a trait that gives them would have the same lines and its own besides.
 #[derive(Clone, Copy)]
 struct Common {
     state: u8,
@@ -99,6 +100,7 @@ impl Bytes for Common {
     }
 }
 
+// A guest's fields, and then its own two.
 impl Bytes for GuestSession {
     fn append(self, out: &mut Vec<u8>) -> Result<(), AllocError> {
         let common = Common {
@@ -114,6 +116,7 @@ impl Bytes for GuestSession {
     }
 }
 
+// A host's fields, and then zeros.
 impl Bytes for HostSession {
     fn append(self, out: &mut Vec<u8>) -> Result<(), AllocError> {
         let common = Common {

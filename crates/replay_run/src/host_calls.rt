@@ -3,8 +3,7 @@ use crate::answer::{Answer, Part, State};
 use crate::ends::End;
 use crate::frames::{AREA, Frame};
 use crate::operations::WriteCall;
-use entries::host_entry::receive_once;
-use host::{Error, HostEvent, HostSession, Received, Sent};
+use host::{After, Error, HostEvent, HostSession, Sent};
 use session::Identity;
 use wire::Sequence;
 
@@ -39,60 +38,42 @@ impl From<HostEvent> for Answer {
 }
 
 impl End for HostSession {
-    type Event = HostEvent;
-
     const STAGE: usize = AREA;
 
     // A capability has 32 bytes, and a host neither acknowledges nor credits.
-    fn write(
-        &mut self,
-        call: WriteCall,
-        f: Frame<'_>,
-        output: &mut [u8],
-    ) -> Option<Result<Sent, Error>> {
-        let done = match call {
+    fn write(self, call: WriteCall, f: Frame<'_>, output: &mut [u8]) -> Option<After<Self, Sent>> {
+        match call {
             WriteCall::Attach => {
                 let capability = <[u8; 32]>::try_from(f.input).ok()?;
-                host::attach(*self, capability, output, f.at())
+                Some(host::attach(self, capability, output, f.at()))
             }
-            WriteCall::Send => host::send(*self, f.input, output, f.at()),
-            WriteCall::Acknowledge | WriteCall::Credit => return None,
-        };
-        *self = done.session;
-        Some(done.answer)
+            WriteCall::Send => Some(host::send(self, f.input, output, f.at())),
+            WriteCall::Acknowledge | WriteCall::Credit => None,
+        }
     }
 
-    fn receive(&mut self, f: Frame<'_>, stage: &mut [u8]) -> Result<Received<HostEvent>, Error> {
-        let done = if f.thin {
-            receive_once(*self, f.input, stage)
-        } else {
-            host::receive(*self, f.input, stage)
-        };
-        *self = done.session;
-        done.answer
+    fn disconnect(self) -> After<Self, ()> {
+        host::disconnect(self)
     }
 
-    fn disconnect(&mut self) -> Result<(), Error> {
-        let done = host::disconnect(*self);
-        *self = done.session;
-        done.answer
-    }
-
-    fn asks(&self) -> Result<Answer, Error> {
+    fn asks(self) -> Result<Answer, Error> {
         Ok(Answer {
-            event: host::state(*self)?.number(),
-            next: host::needed(*self)? as u64,
-            identity: host::identity(*self)?,
+            event: host::state(self)?.number(),
+            next: host::needed(self)? as u64,
+            identity: host::identity(self)?,
             ..Answer::default()
         })
     }
 
-    fn set_sequences(&mut self, send: Sequence, due: Sequence) {
-        self.send_sequence = send;
-        self.receive_sequence = due;
+    fn with_sequences(self, send: Sequence, due: Sequence) -> HostSession {
+        HostSession {
+            send_sequence: send,
+            receive_sequence: due,
+            ..self
+        }
     }
 
-    fn state(&self) -> State {
-        State::Host(*self)
+    fn state(self) -> State {
+        State::Host(self)
     }
 }

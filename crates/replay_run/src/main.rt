@@ -22,7 +22,8 @@ use std::io::{ErrorKind, Read, Write};
 // Bytes of a block.
 const BLOCK: usize = 131072;
 
-// Every block of the input, as long as whole ones come.
+// Every block of the input, as long as whole ones come. The program is proved to end, so its loop has
+// a bound, which no input reaches.
 fn main(rt: HostRuntime) -> std::io::Result<()> {
     let mut input = rt.stdin();
     let mut output = rt.stdout();

@@ -64,9 +64,7 @@ impl TryFrom<u8> for Operation {
             1 => Operation::Fresh,
             10..=16 => Operation::Guest(SessionCall::try_from(number - 10)?),
             20..=26 => Operation::Host(SessionCall::try_from(number - 20)?),
-            30 => Operation::Parser(ParserCall::Push),
-            31 => Operation::Parser(ParserCall::New),
-            32 => Operation::Parser(ParserCall::Asks),
+            30..=32 => Operation::Parser(ParserCall::try_from(number)?),
             50 => Operation::Guest(SessionCall::SetSequences),
             51 => Operation::Host(SessionCall::SetSequences),
             _ => Operation::Plain(PlainCall::try_from(number)?),
@@ -87,6 +85,19 @@ impl TryFrom<u8> for SessionCall {
             4 => SessionCall::Write(WriteCall::Credit),
             5 => SessionCall::Disconnect,
             6 => SessionCall::Asks,
+            _ => return Err(Unknown),
+        })
+    }
+}
+
+impl TryFrom<u8> for ParserCall {
+    type Error = Unknown;
+
+    fn try_from(number: u8) -> Result<ParserCall, Unknown> {
+        Ok(match number {
+            30 => ParserCall::Push,
+            31 => ParserCall::New,
+            32 => ParserCall::Asks,
             _ => return Err(Unknown),
         })
     }

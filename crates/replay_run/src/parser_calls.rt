@@ -2,20 +2,15 @@
 use crate::answer::{Answer, Part, State, area};
 use crate::frames::{AREA, Frame};
 use crate::operations::ParserCall;
-use parser::{Complete, RecordParser, payload, push};
-use session::identity_in;
+use parser::{Complete, Progress, RecordParser, payload, push};
+use session::Identity;
 use wire::errors::Error;
 
 // Where the stage stands in the memory.
 const STAGE: usize = 2 * AREA;
 
-fn push(parser: &mut RecordParser, f: Frame<'_>, memory: &mut [u8]) -> Answer {
-    let pushed = push::push(*parser, f.input, f.stage(memory, STAGE));
-    *parser = pushed.parser;
-    let progress = match pushed.answer {
-        Ok(progress) => progress,
-        Err(error) => return Answer::from(error),
-    };
+// What a push did, with the record that it completed.
+fn progressed(progress: Progress, piece: &[u8], stage: &[u8]) -> Answer {
     let count = progress.consumed as u64;
     let Some(Complete { record, place }) = progress.complete else {
         return Answer {
@@ -23,13 +18,13 @@ fn push(parser: &mut RecordParser, f: Frame<'_>, memory: &mut [u8]) -> Answer {
             ..Answer::default()
         };
     };
-    let bytes = payload(f.input, area(memory, STAGE), place, record.length);
+    let bytes = payload(piece, stage, place, record.length);
     Answer {
         event: 8,
         place: Some(place),
         count,
         next: record.sequence.0,
-        identity: Some(identity_in(record)),
+        identity: Some(Identity::from(record)),
         window: record.window(bytes),
         credit: record.credit(bytes),
         error_code: record.error_code(bytes).map(|code| code.code()),
@@ -41,6 +36,16 @@ fn push(parser: &mut RecordParser, f: Frame<'_>, memory: &mut [u8]) -> Answer {
         },
         ..Answer::default()
     }
+}
+
+fn push(parser: &mut RecordParser, f: Frame<'_>, memory: &mut [u8]) -> Answer {
+    let pushed = push::push(*parser, f.input, f.stage(memory, STAGE));
+    *parser = pushed.parser;
+    let stage = area(memory, STAGE);
+    pushed.answer.map_or_else(
+        Answer::from,
+        |progress| progressed(progress, f.input, stage),
+    )
 }
 
 // buffered and needed.
@@ -65,10 +70,7 @@ pub fn turn(
             *parser = RecordParser::new();
             Answer::default()
         }
-        ParserCall::Asks => match asks(*parser) {
-            Ok(answer) => answer,
-            Err(error) => Answer::from(error),
-        },
+        ParserCall::Asks => asks(*parser).unwrap_or_else(Answer::from),
     };
     Answer {
         state: State::Parser(*parser),
