@@ -113,8 +113,9 @@ fn accept_record(
 }
 
 // A receive that leaves Failed. The host has this, `wait` and `after_push` too: each end builds its own
-// session and has its own event, and the clause of each function is the end's own rule. By
-// `After::of` (as in `wait`) every receive was slower, by some seven instructions.
+// session and event under its own rule. One function for both would need a trait that builds a session
+// from parser and state, with both ends' rules for each function: no plainer than the two. With
+// `After::of` here and in `receive_any`, as in `wait`, a receive took one to seven instructions more.
 fn fail(
     session: GuestSession,
     parser: RecordParser,

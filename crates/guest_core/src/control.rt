@@ -66,7 +66,7 @@ fn acknowledged(mut session: GuestSession, window: u32) -> GuestSession
 }
 
 // Writes the record with which the guest attaches. The host has this too: each builds its own session and
-// names its own state.
+// names its own state, which a trait would have to do for both: no plainer.
 #[tactic(auto, using(wire::proofs::Rows::numbered), unfolding(crate::specs::Calls::attach, crate::specs::Writes::writes, outer::specs::Outer::write))]
 pub fn attach(session: GuestSession, output: &mut [u8], at: usize) -> After<GuestSession, Sent>
     ensures { outcome (sent result) output.new ≡ calls.attach session output.old at }
@@ -98,7 +98,7 @@ pub fn acknowledge(
 }
 
 // Ends the session at the end of the stream. The host has this too: each builds its own session and names
-// its own states.
+// its own states, which a trait would have to do for both: no plainer.
 #[tactic(auto, using(std::proofs::lemmas::Bool::Decides::nat_tests, crate::proofs::Soundness::sound_inside), unfolding(crate::specs::Calls::disconnect, wire::specs::Refusals::first))]
 pub fn disconnect(session: GuestSession) -> After<GuestSession, ()>
     ensures { closed result ≡ calls.disconnect session }

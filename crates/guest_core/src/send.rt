@@ -57,7 +57,7 @@ fn encode_sent(
 
 // Writes a DATA record of at most the first 65,536 bytes, and says how many it took. Of the session
 // only the sequence changes, and a refusal leaves that too. The host has this too: each changes its own
-// session, and its clause is its own rule.
+// session under its own rule, which a trait would have to do for both: no plainer.
 #[tactic(auto, using(wire::proofs::Rows::refuses, crate::proofs::Sending::by_encoding))]
 pub fn send(
     mut session: GuestSession,

@@ -99,7 +99,7 @@ fn accept_record(
 }
 
 // A receive that leaves Failed. The guest has this, `wait` and `after_push` too: each end builds its own
-// session, has its own event, and its clause is its own rule.
+// session and event under its own rule (crates/guest/src/accept.rt says why there are two).
 fn fail(
     session: HostSession,
     parser: RecordParser,

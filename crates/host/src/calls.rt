@@ -31,7 +31,7 @@ fn write_attach(
 }
 
 // Writes the record with which the host attaches. The guest has this too: each builds its own session and
-// names its own state.
+// names its own state, which a trait would have to do for both: no plainer.
 #[tactic(auto, using(wire::proofs::Rows::numbered), unfolding(crate::specs::Calls::attach, crate::specs::Calls::writes, outer::specs::Outer::write))]
 pub fn attach(
     session: HostSession,
@@ -75,7 +75,7 @@ fn encode_sent(
 
 // Writes a DATA record of at most the first 65,536 bytes, and says how many it took. Of the session
 // only the sequence changes, and a refusal leaves that too. The guest has this too: each changes its own
-// session, and its clause is its own rule.
+// session under its own rule, which a trait would have to do for both: no plainer.
 #[tactic(auto, using(wire::proofs::Rows::refuses, crate::proofs::Calling::by_encoding))]
 pub fn send(
     mut session: HostSession,
@@ -94,7 +94,8 @@ pub fn send(
 }
 
 // Ends the session at the end of the stream: 19 with bytes buffered leaves Failed, or it leads to
-// Closed. The guest has this too: each builds its own session and names its own states.
+// Closed. The guest has this too: each builds its own session and names its own states, which a trait would
+// have to do for both: no plainer.
 #[tactic(auto, unfolding(crate::specs::State::sound_host, crate::specs::Calls::disconnect, wire::specs::Refusals::first))]
 pub fn disconnect(session: HostSession) -> After<HostSession, ()>
     ensures { closed result ≡ rule.disconnect session }
