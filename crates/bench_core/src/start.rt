@@ -12,6 +12,7 @@ pub const EPOCH: u64 = 7;
 pub const WINDOW: u32 = 4194304;
 
 // A guest that has acknowledged a RESET of sequence 0.
+// Internal: serves the benchmark, which states nothing of it.
 pub fn active_guest() -> GuestSession {
     GuestSession {
         parser: RecordParser::new(),

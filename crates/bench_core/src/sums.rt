@@ -15,6 +15,7 @@ impl Sums {
     }
 
     // Adds a payload: its length and first byte, or with `whole` its length and every byte.
+    // Internal: serves the benchmark, which states nothing of it.
     pub fn add_payload(&mut self, bytes: &[u8], whole: bool) {
         self.add(bytes.len() as u64);
         if whole {
