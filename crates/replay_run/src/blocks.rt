@@ -1,11 +1,11 @@
 // Blocks of calls, run on fresh sessions (tests/differential/FORMAT.md).
-use crate::answer::Answer;
-use crate::frames::{Frame, Frames, MEMORY};
-use crate::operations::Operation;
 use crate::{ends, parser_calls, plain};
 use guest::GuestSession;
 use host::HostSession;
 use parser::RecordParser;
+use replay::answer::Answer;
+use replay::frames::{Frame, Frames, MEMORY};
+use replay::operations::Operation;
 use std::alloc::{AllocError, Global};
 
 // The most bytes that the answers of a block take.

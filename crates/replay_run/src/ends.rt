@@ -1,9 +1,9 @@
 // The calls of a session (tests/differential/FORMAT.md), of a guest's and of a host's alike.
-use crate::answer::{Answer, State};
-use crate::frames::Frame;
-use crate::operations::{SessionCall, WriteCall};
 use entries::{Receive, receive_once};
-use session::{After, Sent};
+use replay::answer::{Answer, Part, State};
+use replay::frames::{Frame, OUTPUT};
+use replay::operations::{SessionCall, WriteCall};
+use session::{After, Received, Sent};
 use wire::Sequence;
 use wire::errors::Error;
 
@@ -25,11 +25,38 @@ pub trait End: Receive<Event: Into<Answer>> {
     fn state(self) -> State;
 }
 
+// The answer of an operation that writes: what stands in the output from `at` on.
+pub fn wrote(sent: Result<Sent, Error>, at: usize) -> Answer {
+    match sent {
+        Ok(Sent { count, next }) => Answer {
+            count: count as u64,
+            next: next as u64,
+            written: Part::Memory {
+                from: OUTPUT.saturating_add(at),
+                length: next.saturating_sub(at),
+            },
+            ..Answer::default()
+        },
+        Err(error) => Answer::from(error),
+    }
+}
+
+// The answer of a receive: its event, and the bytes that it took.
+fn received<E: Into<Answer>>(received: Result<Received<E>, Error>) -> Answer {
+    match received {
+        Ok(Received { consumed, event }) => Answer {
+            count: consumed as u64,
+            ..event.map_or(Answer::default(), E::into)
+        },
+        Err(error) => Answer::from(error),
+    }
+}
+
 // Runs a call. Its answer shows the session.
 pub fn turn<S: End>(session: &mut S, call: SessionCall, f: Frame<'_>, memory: &mut [u8]) -> Answer {
     let answer = match call {
         SessionCall::Write(writing) => match session.write(writing, f, f.output(memory)) {
-            Some(sent) => Answer::wrote(sent.store(session), f.at()),
+            Some(sent) => wrote(sent.store(session), f.at()),
             None => Answer::default(),
         },
         SessionCall::Receive => {
@@ -39,12 +66,12 @@ pub fn turn<S: End>(session: &mut S, call: SessionCall, f: Frame<'_>, memory: &m
             } else {
                 session.receive(f.input, stage)
             };
-            Answer::received(done.store(session))
+            received(done.store(session))
         }
-        SessionCall::Disconnect => session
-            .disconnect()
-            .store(session)
-            .map_or_else(Answer::from, |()| Answer::default()),
+        SessionCall::Disconnect => match session.disconnect().store(session) {
+            Ok(()) => Answer::default(),
+            Err(error) => Answer::from(error),
+        },
         SessionCall::Asks => session.asks().unwrap_or_else(Answer::from),
         SessionCall::SetSequences => {
             *session = session.with_sequences(Sequence(f.a), Sequence(f.b));

@@ -1,7 +1,7 @@
 // The calls of the plain layer: operations 41 to 46. The record encoder has the same input.
-use crate::answer::Answer;
-use crate::frames::Frame;
-use outer::{OuterHeader, decode_outer_header};
+use outer::decode_outer_header;
+use replay::answer::Answer;
+use replay::frames::Frame;
 use session::Identity;
 use wire::errors::Error;
 use wire::{Epoch, Sequence};
@@ -47,47 +47,41 @@ pub fn encode_outer(f: Frame<'_>, output: &mut [u8]) -> Option<Result<usize, Err
     ))
 }
 
-// The fields of a header.
-impl From<OuterHeader> for Answer {
-    fn from(header: OuterHeader) -> Answer {
-        let instance_id = header.instance_id;
-        Answer {
+// decode_outer_header; none of an input that has not 44 bytes.
+pub fn decode_header(input: &[u8]) -> Option<Answer> {
+    Some(match decode_outer_header(<[u8; 44]>::try_from(input).ok()?) {
+        Ok(header) => Answer {
             count: header.length as u64,
             next: header.sequence.0,
             identity: Some(Identity {
-                instance_id,
+                instance_id: header.instance_id,
                 epoch: header.epoch,
             }),
             record_type: header.record_type,
             ..Answer::default()
-        }
-    }
-}
-
-// decode_outer_header; none of an input that has not 44 bytes.
-pub fn decode_header(input: &[u8]) -> Option<Answer> {
-    let decoded = decode_outer_header(<[u8; 44]>::try_from(input).ok()?);
-    Some(decoded.map_or_else(Answer::from, Answer::from))
+        },
+        Err(error) => Answer::from(error),
+    })
 }
 
 // The answer of an encoder of four bytes: they are in place of the window.
 pub fn encoded(payload: Result<[u8; 4], Error>) -> Answer {
-    payload.map_or_else(
-        Answer::from,
-        |bytes| Answer {
+    match payload {
+        Ok(bytes) => Answer {
             window: Some(u32::from_le_bytes(bytes)),
             ..Answer::default()
         },
-    )
+        Err(error) => Answer::from(error),
+    }
 }
 
 // The answer of a decoder of four bytes.
 pub fn decoded(payload: Result<u32, Error>) -> Answer {
-    payload.map_or_else(
-        Answer::from,
-        |value| Answer {
+    match payload {
+        Ok(value) => Answer {
             count: value.into(),
             ..Answer::default()
         },
-    )
+        Err(error) => Answer::from(error),
+    }
 }

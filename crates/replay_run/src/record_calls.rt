@@ -1,9 +1,9 @@
 // The calls of the record encoder, and what types and error codes answer: operations 40, 47, 48.
-use crate::answer::Answer;
-use crate::frames::Frame;
 use crate::outer_calls::Fields;
 use record::codec;
 use record::types::{ErrorCode, RecordType};
+use replay::answer::Answer;
+use replay::frames::Frame;
 use wire::errors::Error;
 
 // encode_record; none of an input that is too short, or of an unknown type.

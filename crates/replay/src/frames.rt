@@ -6,6 +6,12 @@ ghost use Rattle.std.specs.Iterator.{at_most};
 pub const AREA: usize = 65600;
 // Bytes of the memory: the stages of guest, host and bare parser, and the output.
 pub const MEMORY: usize = 4 * AREA;
+// Where the stages stand in the memory.
+pub const GUEST_STAGE: usize = 0;
+
+pub const HOST_STAGE: usize = AREA;
+
+pub const PARSER_STAGE: usize = 2 * AREA;
 // Where the output stands in the memory.
 pub const OUTPUT: usize = 3 * AREA;
 
@@ -22,21 +28,25 @@ pub struct Frame<'a> {
 
 impl Frame<'_> {
     // The value of an operation that writes.
+    // Internal: serves the comparison with the Rust, which states nothing of it.
     pub fn value(self) -> u32 {
         (self.a & 0xffff_ffff) as u32
     }
 
     // The position in the output.
+    // Internal: serves the comparison with the Rust, which states nothing of it.
     pub fn at(self) -> usize {
         self.b as usize
     }
 
     // The stage of a call, in the area from a place on.
+    // Internal: serves the comparison with the Rust, which states nothing of it.
     pub fn stage(self, memory: &mut [u8], from: usize) -> &mut [u8] {
         lent(memory, from, self.a)
     }
 
     // The output of a call.
+    // Internal: serves the comparison with the Rust, which states nothing of it.
     pub fn output(self, memory: &mut [u8]) -> &mut [u8] {
         lent(memory, OUTPUT, self.a >> 32)
     }
@@ -58,6 +68,8 @@ pub struct Frames<'a> {
 }
 
 impl<'a> Frames<'a> {
+    // The frames of a block.
+    // Internal: serves the comparison with the Rust, which states nothing of it.
     pub fn new(calls: &'a [u8], thin: bool) -> Frames<'a> {
         Frames { rest: calls, thin }
     }
