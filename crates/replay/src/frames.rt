@@ -2,6 +2,8 @@
 ghost use Rattle.std.specs.Prelude.{length};
 ghost use Rattle.std.specs.Iterator.{at_most};
 
+use wire::{Epoch, Sequence};
+
 // Bytes of an area of the memory.
 pub const AREA: usize = 65600;
 // Bytes of the memory: the stages of guest, host and bare parser, and the output.
@@ -26,7 +28,33 @@ pub struct Frame<'a> {
     pub input: &'a [u8],
 }
 
-impl Frame<'_> {
+// An encoder's input.
+#[derive(Clone, Copy)]
+pub struct Fields<'a> {
+    pub record_type: u8,
+    pub instance_id: [u8; 16],
+    pub epoch: Epoch,
+    pub sequence: Sequence,
+    pub payload: &'a [u8],
+}
+
+impl<'a> Frame<'a> {
+    // An encoder's input; none where it is too short.
+    // Internal: serves the comparison with the Rust, which states nothing of it.
+    pub fn fields(self) -> Option<Fields<'a>> {
+        let (&[record_type], rest) = self.input.split_first_chunk::<1>()?;
+        let (instance_id, rest) = rest.split_first_chunk::<16>()?;
+        let (epoch, rest) = rest.split_first_chunk::<8>()?;
+        let (sequence, payload) = rest.split_first_chunk::<8>()?;
+        Some(Fields {
+            record_type,
+            instance_id: *instance_id,
+            epoch: Epoch(u64::from_le_bytes(*epoch)),
+            sequence: Sequence(u64::from_le_bytes(*sequence)),
+            payload,
+        })
+    }
+
     // The value of an operation that writes.
     // Internal: serves the comparison with the Rust, which states nothing of it.
     pub fn value(self) -> u32 {

@@ -4,13 +4,6 @@
 #![tactic(auto)]
 
 mod blocks;
-mod ends;
-mod guest_calls;
-mod host_calls;
-mod outer_calls;
-mod parser_calls;
-mod plain;
-mod record_calls;
 
 use crate::blocks::block;
 use std::io::{ErrorKind, Read, Write};

@@ -30,7 +30,7 @@ fn show(from: u64, count: u64) -> Option<Answer> {
 }
 
 // Runs a call; none where its input has no answer.
-pub fn call(operation: PlainCall, f: Frame<'_>, memory: &mut [u8]) -> Option<Answer> {
+pub(crate) fn call(operation: PlainCall, f: Frame<'_>, memory: &mut [u8]) -> Option<Answer> {
     match operation {
         PlainCall::EncodeRecord => Some(wrote(encode_record(f, f.output(memory))?, f.at())),
         PlainCall::EncodeOuter => Some(wrote(encode_outer(f, f.output(memory))?, f.at())),

@@ -55,7 +55,7 @@ fn asks(parser: RecordParser) -> Result<Answer, Error> {
 }
 
 // Runs a call. Its answer shows the parser.
-pub fn turn(
+pub(crate) fn turn(
     parser: &mut RecordParser,
     call: ParserCall,
     f: Frame<'_>,

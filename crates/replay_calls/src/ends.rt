@@ -8,7 +8,7 @@ use wire::Sequence;
 use wire::errors::Error;
 
 // A session, as the calls of a list change it.
-pub trait End: Receive<Event: Into<Answer>> {
+pub(crate) trait End: Receive<Event: Into<Answer>> {
     // Where its stage stands in the memory.
     const STAGE: usize;
 
@@ -26,7 +26,7 @@ pub trait End: Receive<Event: Into<Answer>> {
 }
 
 // The answer of an operation that writes: what stands in the output from `at` on.
-pub fn wrote(sent: Result<Sent, Error>, at: usize) -> Answer {
+pub(crate) fn wrote(sent: Result<Sent, Error>, at: usize) -> Answer {
     match sent {
         Ok(Sent { count, next }) => Answer {
             count: count as u64,
@@ -53,7 +53,12 @@ fn received<E: Into<Answer>>(received: Result<Received<E>, Error>) -> Answer {
 }
 
 // Runs a call. Its answer shows the session.
-pub fn turn<S: End>(session: &mut S, call: SessionCall, f: Frame<'_>, memory: &mut [u8]) -> Answer {
+pub(crate) fn turn<S: End>(
+    session: &mut S,
+    call: SessionCall,
+    f: Frame<'_>,
+    memory: &mut [u8],
+) -> Answer {
     let answer = match call {
         SessionCall::Write(writing) => match session.write(writing, f, f.output(memory)) {
             Some(sent) => wrote(sent.store(session), f.at()),
