@@ -8,13 +8,13 @@ use wire::{Epoch, Sequence};
 pub const AREA: usize = 65600;
 // Bytes of the memory: the stages of guest, host and bare parser, and the output.
 pub const MEMORY: usize = 4 * AREA;
-// Where the stages stand in the memory.
+// Where the guest's stage stands in the memory.
 pub const GUEST_STAGE: usize = 0;
-
+// Where the host's stage stands.
 pub const HOST_STAGE: usize = AREA;
-
+// Where the bare parser's stage stands.
 pub const PARSER_STAGE: usize = 2 * AREA;
-// Where the output stands in the memory.
+// Where the output stands.
 pub const OUTPUT: usize = 3 * AREA;
 
 // A call: the operation's number, two figures and the input. `thin`: a session's receive and credit

@@ -21,21 +21,20 @@ pub(crate) fn encode_outer(f: Frame<'_>, output: &mut [u8]) -> Option<Result<usi
 
 // decode_outer_header; none of an input that has not 44 bytes.
 pub(crate) fn decode_header(input: &[u8]) -> Option<Answer> {
-    Some(
-        match decode_outer_header(<[u8; 44]>::try_from(input).ok()?) {
-            Ok(header) => Answer {
-                count: header.length as u64,
-                next: header.sequence.0,
-                identity: Some(Identity {
-                    instance_id: header.instance_id,
-                    epoch: header.epoch,
-                }),
-                record_type: header.record_type,
-                ..Answer::default()
-            },
-            Err(error) => Answer::from(error),
+    let bytes = <[u8; 44]>::try_from(input).ok()?;
+    Some(match decode_outer_header(bytes) {
+        Ok(header) => Answer {
+            count: header.length as u64,
+            next: header.sequence.0,
+            identity: Some(Identity {
+                instance_id: header.instance_id,
+                epoch: header.epoch,
+            }),
+            record_type: header.record_type,
+            ..Answer::default()
         },
-    )
+        Err(error) => Answer::from(error),
+    })
 }
 
 // The answer of an encoder of four bytes: they are in place of the window.

@@ -1,5 +1,6 @@
 // The calls of a bare parser: operations 30 to 32.
 use parser::{Complete, Progress, RecordParser, payload, push};
+use record::types::ErrorCode;
 use replay::answer::{Answer, Part, State};
 use replay::frames::{Frame, PARSER_STAGE};
 use replay::operations::ParserCall;
@@ -24,7 +25,7 @@ fn progressed(progress: Progress, piece: &[u8], stage: &[u8]) -> Answer {
         identity: Some(Identity::from(record)),
         window: record.window(bytes),
         credit: record.credit(bytes),
-        error_code: record.error_code(bytes).map(|code| code.code()),
+        error_code: record.error_code(bytes).map(ErrorCode::code),
         record_type: record.record_type.code(),
         payload: Part::Payload {
             place,

@@ -34,7 +34,7 @@ pub(crate) fn type_asks(code: u8, length: usize) -> Option<Answer> {
 // What an error code stands for.
 pub(crate) fn error_asks(code: u32) -> Answer {
     Answer {
-        error_code: ErrorCode::from_code(code).map(|known| known.code()),
+        error_code: ErrorCode::from_code(code).map(ErrorCode::code),
         ..Answer::default()
     }
 }
