@@ -149,6 +149,15 @@ impl From<Error> for Answer {
     }
 }
 
+impl<T: Into<Answer>> From<Result<T, Error>> for Answer {
+    fn from(done: Result<T, Error>) -> Answer {
+        match done {
+            Ok(value) => value.into(),
+            Err(error) => error.into(),
+        }
+    }
+}
+
 // A place's number (FORMAT.md).
 fn place_number(place: Option<Place>) -> u8 {
     match place {

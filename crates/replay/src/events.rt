@@ -1,10 +1,10 @@
-// What both ends' events are as answers: each has its number, and what it reports.
+// What receives and their events are as answers: each event has its number, and what it reports.
 use crate::answer::{Answer, Part};
 use crate::frames::{GUEST_STAGE, HOST_STAGE};
 use guest::GuestEvent;
 use host::HostEvent;
 use parser::Place;
-use session::Identity;
+use session::{Identity, Received};
 
 // An event that reports nothing, or an identity.
 fn named(event: u8, identity: Option<Identity>) -> Answer {
@@ -46,6 +46,16 @@ impl From<HostEvent> for Answer {
             HostEvent::Rejected => named(5, None),
             HostEvent::Data { place, length } => data(6, place, HOST_STAGE, length),
             HostEvent::Reset(identity) => named(7, Some(identity)),
+        }
+    }
+}
+
+// A receive's event, and the bytes that it took.
+impl<E: Into<Answer>> From<Received<E>> for Answer {
+    fn from(received: Received<E>) -> Answer {
+        Answer {
+            count: received.consumed as u64,
+            ..received.event.map_or(Answer::default(), E::into)
         }
     }
 }

@@ -3,7 +3,7 @@ use entries::{Receive, receive_once};
 use replay::answer::{Answer, Part, State};
 use replay::frames::{Frame, OUTPUT};
 use replay::operations::{SessionCall, WriteCall};
-use session::{After, Received, Sent};
+use session::{After, Sent};
 use wire::Sequence;
 use wire::errors::Error;
 
@@ -41,17 +41,6 @@ pub(crate) fn wrote(sent: Result<Sent, Error>, at: usize) -> Answer {
     }
 }
 
-// The answer of a receive: its event, and the bytes that it took.
-fn received<E: Into<Answer>>(received: Result<Received<E>, Error>) -> Answer {
-    match received {
-        Ok(Received { consumed, event }) => Answer {
-            count: consumed as u64,
-            ..event.map_or(Answer::default(), E::into)
-        },
-        Err(error) => Answer::from(error),
-    }
-}
-
 // Runs a call. Its answer shows the session.
 pub(crate) fn turn<S: End>(
     session: &mut S,
@@ -71,13 +60,13 @@ pub(crate) fn turn<S: End>(
             } else {
                 session.receive(f.input, stage)
             };
-            received(done.store(session))
+            Answer::from(done.store(session))
         }
         SessionCall::Disconnect => match session.disconnect().store(session) {
             Ok(()) => Answer::default(),
             Err(error) => Answer::from(error),
         },
-        SessionCall::Asks => session.asks().unwrap_or_else(Answer::from),
+        SessionCall::Asks => Answer::from(session.asks()),
         SessionCall::SetSequences => {
             *session = session.with_sequences(Sequence(f.a), Sequence(f.b));
             Answer::default()

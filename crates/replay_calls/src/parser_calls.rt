@@ -68,7 +68,7 @@ pub(crate) fn turn(
             *parser = RecordParser::new();
             Answer::default()
         }
-        ParserCall::Asks => asks(*parser).unwrap_or_else(Answer::from),
+        ParserCall::Asks => Answer::from(asks(*parser)),
     };
     Answer {
         state: State::Parser(*parser),
