@@ -3,18 +3,7 @@
 // to end; the run holds what it does to the Rust's answers.
 #![tactic(auto)]
 
-mod answer;
 mod blocks;
-mod bytes;
-mod ends;
-mod frames;
-mod guest_calls;
-mod host_calls;
-mod operations;
-mod outer_calls;
-mod parser_calls;
-mod plain;
-mod record_calls;
 
 use crate::blocks::block;
 use std::io::{ErrorKind, Read, Write};

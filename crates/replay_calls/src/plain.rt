@@ -1,16 +1,17 @@
 // The calls that have no session and no parser: operations 40 to 48 and 60.
-use crate::answer::{Answer, Part};
-use crate::frames::{AREA, Frame, MEMORY};
-use crate::operations::PlainCall;
+use crate::ends;
 use crate::outer_calls::{decode_header, decoded, encode_outer, encoded};
 use crate::record_calls::{encode_record, error_asks, type_asks};
 use outer::payloads;
+use replay::answer::{Answer, Part};
+use replay::frames::{AREA, Frame, MEMORY};
+use replay::operations::PlainCall;
 use session::Sent;
 use wire::errors::Error;
 
 // The answer of an encoder.
 fn wrote(written: Result<usize, Error>, at: usize) -> Answer {
-    Answer::wrote(written.map(|next| Sent { count: 0, next }), at)
+    ends::wrote(written.map(|next| Sent { count: 0, next }), at)
 }
 
 // A part of the memory, as the answer's payload.
@@ -22,14 +23,14 @@ fn show(from: u64, count: u64) -> Option<Answer> {
     Some(Answer {
         payload: Part::Memory {
             from: from as usize,
-            to: to as usize,
+            length: count as usize,
         },
         ..Answer::default()
     })
 }
 
 // Runs a call; none where its input has no answer.
-pub fn call(operation: PlainCall, f: Frame<'_>, memory: &mut [u8]) -> Option<Answer> {
+pub(crate) fn call(operation: PlainCall, f: Frame<'_>, memory: &mut [u8]) -> Option<Answer> {
     match operation {
         PlainCall::EncodeRecord => Some(wrote(encode_record(f, f.output(memory))?, f.at())),
         PlainCall::EncodeOuter => Some(wrote(encode_outer(f, f.output(memory))?, f.at())),

@@ -1,13 +1,14 @@
 // What a call answers, and its bytes (tests/differential/FORMAT.md).
-use crate::bytes::{Bytes, count4};
-use crate::frames::{AREA, Frame, OUTPUT};
+use crate::bytes::{Bytes, count4, number_of};
+use crate::frames::{AREA, Frame};
 use guest::GuestSession;
 use host::HostSession;
 use parser::{Place, RecordParser, payload};
-use session::{Identity, Received, Sent};
+use session::Identity;
 use std::alloc::AllocError;
 use wire::Refusal;
 use wire::errors::Error;
+use wire::parts::part;
 
 // Bytes of an answer's head.
 const HEAD: u32 = 128;
@@ -25,7 +26,7 @@ pub enum Part {
     },
     Memory {
         from: usize,
-        to: usize,
+        length: usize,
     },
 }
 
@@ -38,17 +39,10 @@ impl Part {
                 place,
                 stage,
                 length,
-            } => payload(input, area(memory, stage), place, length),
-            Part::Memory { from, to } => memory.get(from..to).unwrap_or_default(),
+            } => payload(input, part(memory, stage, AREA), place, length),
+            Part::Memory { from, length } => part(memory, from, length),
         }
     }
-}
-
-// The area of the memory from a place on.
-pub fn area(memory: &[u8], from: usize) -> &[u8] {
-    memory
-        .get(from..from.saturating_add(AREA))
-        .unwrap_or_default()
 }
 
 // The state that an answer shows.
@@ -102,34 +96,8 @@ pub struct Answer {
 }
 
 impl Answer {
-    // The answer of an operation that writes: what stands in the output from `at` on.
-    pub fn wrote(sent: Result<Sent, Error>, at: usize) -> Answer {
-        sent.map_or_else(
-            Answer::from,
-            |sent| Answer {
-                count: sent.count as u64,
-                next: sent.next as u64,
-                written: Part::Memory {
-                    from: OUTPUT.saturating_add(at),
-                    to: OUTPUT.saturating_add(sent.next),
-                },
-                ..Answer::default()
-            },
-        )
-    }
-
-    // The answer of a receive: its event, and the bytes that it took.
-    pub fn received<E: Into<Answer>>(received: Result<Received<E>, Error>) -> Answer {
-        received.map_or_else(
-            Answer::from,
-            |received| Answer {
-                count: received.consumed as u64,
-                ..received.event.map_or(Answer::default(), E::into)
-            },
-        )
-    }
-
     // Appends the answer's bytes: head, payload, written bytes, state.
+    // Internal: serves the comparison with the Rust, which states nothing of it.
     pub fn append(self, f: Frame<'_>, memory: &[u8], out: &mut Vec<u8>) -> Result<(), AllocError> {
         let payload = self.payload.slice(f.input, memory);
         let written = self.written.slice(f.input, memory);
@@ -181,9 +149,13 @@ impl From<Error> for Answer {
     }
 }
 
-// A refusal's number; 0 where there is none.
-pub fn number_of(refusal: Option<Refusal>) -> u8 {
-    refusal.map_or(0, |r| u8::try_from(r.number).unwrap_or(u8::MAX))
+impl<T: Into<Answer>> From<Result<T, Error>> for Answer {
+    fn from(done: Result<T, Error>) -> Answer {
+        match done {
+            Ok(value) => value.into(),
+            Err(error) => error.into(),
+        }
+    }
 }
 
 // A place's number (FORMAT.md).

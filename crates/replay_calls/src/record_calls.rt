@@ -1,14 +1,13 @@
 // The calls of the record encoder, and what types and error codes answer: operations 40, 47, 48.
-use crate::answer::Answer;
-use crate::frames::Frame;
-use crate::outer_calls::Fields;
 use record::codec;
 use record::types::{ErrorCode, RecordType};
+use replay::answer::Answer;
+use replay::frames::Frame;
 use wire::errors::Error;
 
 // encode_record; none of an input that is too short, or of an unknown type.
-pub fn encode_record(f: Frame<'_>, output: &mut [u8]) -> Option<Result<usize, Error>> {
-    let x = Fields::of(f.input)?;
+pub(crate) fn encode_record(f: Frame<'_>, output: &mut [u8]) -> Option<Result<usize, Error>> {
+    let x = f.fields()?;
     Some(codec::encode_record(
         RecordType::from_code(x.record_type)?,
         x.instance_id,
@@ -21,7 +20,7 @@ pub fn encode_record(f: Frame<'_>, output: &mut [u8]) -> Option<Result<usize, Er
 }
 
 // What a type's code stands for, whether it is a bootstrap type and allows the length.
-pub fn type_asks(code: u8, length: usize) -> Option<Answer> {
+pub(crate) fn type_asks(code: u8, length: usize) -> Option<Answer> {
     let record_type = RecordType::from_code(code)?;
     Some(Answer {
         event: 1,
@@ -33,9 +32,9 @@ pub fn type_asks(code: u8, length: usize) -> Option<Answer> {
 }
 
 // What an error code stands for.
-pub fn error_asks(code: u32) -> Answer {
+pub(crate) fn error_asks(code: u32) -> Answer {
     Answer {
-        error_code: ErrorCode::from_code(code).map(|known| known.code()),
+        error_code: ErrorCode::from_code(code).map(ErrorCode::code),
         ..Answer::default()
     }
 }

@@ -1,37 +1,14 @@
 // A guest's session, as the calls of a list change it: operations 10 to 16 and 50.
-use crate::answer::{Answer, Part, State};
 use crate::ends::End;
-use crate::frames::Frame;
-use crate::operations::WriteCall;
 use entries::credit_once;
-use guest::{After, Error, GuestEvent, GuestSession, Sent};
+use guest::{After, Error, GuestSession, Sent};
+use replay::answer::{Answer, State};
+use replay::frames::{Frame, GUEST_STAGE};
+use replay::operations::WriteCall;
 use wire::Sequence;
 
-// An event by its number, with what it reports.
-impl From<GuestEvent> for Answer {
-    fn from(event: GuestEvent) -> Answer {
-        match event {
-            GuestEvent::Reset(identity) => Answer {
-                event: 1,
-                identity: Some(identity),
-                ..Answer::default()
-            },
-            GuestEvent::Data { place, length } => Answer {
-                event: 2,
-                place: Some(place),
-                payload: Part::Payload {
-                    place,
-                    stage: GuestSession::STAGE,
-                    length,
-                },
-                ..Answer::default()
-            },
-        }
-    }
-}
-
 impl End for GuestSession {
-    const STAGE: usize = 0;
+    const STAGE: usize = GUEST_STAGE;
 
     fn write(self, call: WriteCall, f: Frame<'_>, output: &mut [u8]) -> Option<After<Self, Sent>> {
         let at = f.at();

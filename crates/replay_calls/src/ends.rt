@@ -1,14 +1,14 @@
 // The calls of a session (tests/differential/FORMAT.md), of a guest's and of a host's alike.
-use crate::answer::{Answer, State};
-use crate::frames::Frame;
-use crate::operations::{SessionCall, WriteCall};
 use entries::{Receive, receive_once};
+use replay::answer::{Answer, Part, State};
+use replay::frames::{Frame, OUTPUT};
+use replay::operations::{SessionCall, WriteCall};
 use session::{After, Sent};
 use wire::Sequence;
 use wire::errors::Error;
 
 // A session, as the calls of a list change it.
-pub trait End: Receive<Event: Into<Answer>> {
+pub(crate) trait End: Receive<Event: Into<Answer>> {
     // Where its stage stands in the memory.
     const STAGE: usize;
 
@@ -25,11 +25,32 @@ pub trait End: Receive<Event: Into<Answer>> {
     fn state(self) -> State;
 }
 
+// The answer of an operation that writes: what stands in the output from `at` on.
+pub(crate) fn wrote(sent: Result<Sent, Error>, at: usize) -> Answer {
+    match sent {
+        Ok(Sent { count, next }) => Answer {
+            count: count as u64,
+            next: next as u64,
+            written: Part::Memory {
+                from: OUTPUT.saturating_add(at),
+                length: next.saturating_sub(at),
+            },
+            ..Answer::default()
+        },
+        Err(error) => Answer::from(error),
+    }
+}
+
 // Runs a call. Its answer shows the session.
-pub fn turn<S: End>(session: &mut S, call: SessionCall, f: Frame<'_>, memory: &mut [u8]) -> Answer {
+pub(crate) fn turn<S: End>(
+    session: &mut S,
+    call: SessionCall,
+    f: Frame<'_>,
+    memory: &mut [u8],
+) -> Answer {
     let answer = match call {
         SessionCall::Write(writing) => match session.write(writing, f, f.output(memory)) {
-            Some(sent) => Answer::wrote(sent.store(session), f.at()),
+            Some(sent) => wrote(sent.store(session), f.at()),
             None => Answer::default(),
         },
         SessionCall::Receive => {
@@ -39,13 +60,13 @@ pub fn turn<S: End>(session: &mut S, call: SessionCall, f: Frame<'_>, memory: &m
             } else {
                 session.receive(f.input, stage)
             };
-            Answer::received(done.store(session))
+            Answer::from(done.store(session))
         }
-        SessionCall::Disconnect => session
-            .disconnect()
-            .store(session)
-            .map_or_else(Answer::from, |()| Answer::default()),
-        SessionCall::Asks => session.asks().unwrap_or_else(Answer::from),
+        SessionCall::Disconnect => match session.disconnect().store(session) {
+            Ok(()) => Answer::default(),
+            Err(error) => Answer::from(error),
+        },
+        SessionCall::Asks => Answer::from(session.asks()),
         SessionCall::SetSequences => {
             *session = session.with_sequences(Sequence(f.a), Sequence(f.b));
             Answer::default()

@@ -2,11 +2,19 @@
 ghost use Rattle.std.specs.Prelude.{length};
 ghost use Rattle.std.specs.Iterator.{at_most};
 
+use wire::{Epoch, Sequence};
+
 // Bytes of an area of the memory.
 pub const AREA: usize = 65600;
 // Bytes of the memory: the stages of guest, host and bare parser, and the output.
 pub const MEMORY: usize = 4 * AREA;
-// Where the output stands in the memory.
+// Where the guest's stage stands in the memory.
+pub const GUEST_STAGE: usize = 0;
+// Where the host's stage stands.
+pub const HOST_STAGE: usize = AREA;
+// Where the bare parser's stage stands.
+pub const PARSER_STAGE: usize = 2 * AREA;
+// Where the output stands.
 pub const OUTPUT: usize = 3 * AREA;
 
 // A call: the operation's number, two figures and the input. `thin`: a session's receive and credit
@@ -20,23 +28,53 @@ pub struct Frame<'a> {
     pub input: &'a [u8],
 }
 
-impl Frame<'_> {
+// An encoder's input.
+#[derive(Clone, Copy)]
+pub struct Fields<'a> {
+    pub record_type: u8,
+    pub instance_id: [u8; 16],
+    pub epoch: Epoch,
+    pub sequence: Sequence,
+    pub payload: &'a [u8],
+}
+
+impl<'a> Frame<'a> {
+    // An encoder's input; none where it is too short.
+    // Internal: serves the comparison with the Rust, which states nothing of it.
+    pub fn fields(self) -> Option<Fields<'a>> {
+        let (&[record_type], rest) = self.input.split_first_chunk::<1>()?;
+        let (instance_id, rest) = rest.split_first_chunk::<16>()?;
+        let (epoch, rest) = rest.split_first_chunk::<8>()?;
+        let (sequence, payload) = rest.split_first_chunk::<8>()?;
+        Some(Fields {
+            record_type,
+            instance_id: *instance_id,
+            epoch: Epoch(u64::from_le_bytes(*epoch)),
+            sequence: Sequence(u64::from_le_bytes(*sequence)),
+            payload,
+        })
+    }
+
     // The value of an operation that writes.
+    // Internal: serves the comparison with the Rust, which states nothing of it.
     pub fn value(self) -> u32 {
         (self.a & 0xffff_ffff) as u32
     }
 
     // The position in the output.
+    // Internal: serves the comparison with the Rust, which states nothing of it.
     pub fn at(self) -> usize {
         self.b as usize
     }
 
     // The stage of a call, in the area from a place on.
+    // Internal: serves the comparison with the Rust, which states nothing of it.
     pub fn stage(self, memory: &mut [u8], from: usize) -> &mut [u8] {
         lent(memory, from, self.a)
     }
 
     // The output of a call.
+    // Internal: serves the comparison with the Rust, which states nothing of it.
     pub fn output(self, memory: &mut [u8]) -> &mut [u8] {
         lent(memory, OUTPUT, self.a >> 32)
     }
@@ -58,6 +96,8 @@ pub struct Frames<'a> {
 }
 
 impl<'a> Frames<'a> {
+    // The frames of a block.
+    // Internal: serves the comparison with the Rust, which states nothing of it.
     pub fn new(calls: &'a [u8], thin: bool) -> Frames<'a> {
         Frames { rest: calls, thin }
     }

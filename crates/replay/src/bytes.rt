@@ -1,13 +1,12 @@
 // The bytes of what an answer has (tests/differential/FORMAT.md), appended one after another.
-use crate::answer::number_of;
 use guest::GuestSession;
 use host::HostSession;
 use parser::RecordParser;
-use session::{Identity, no_identity};
+use session::{Identity, held};
 use std::alloc::AllocError;
 use wire::{Refusal, Sequence};
 
-pub trait Bytes {
+pub(crate) trait Bytes {
     fn append(self, out: &mut Vec<u8>) -> Result<(), AllocError>;
 }
 
@@ -51,7 +50,7 @@ impl Bytes for Identity {
 // Zeros where there is none.
 impl Bytes for Option<Identity> {
     fn append(self, out: &mut Vec<u8>) -> Result<(), AllocError> {
-        self.unwrap_or(no_identity()).append(out)
+        held(self).append(out)
     }
 }
 
@@ -131,7 +130,12 @@ impl Bytes for HostSession {
     }
 }
 
+// A refusal's number; 0 where there is none.
+pub(crate) fn number_of(refusal: Option<Refusal>) -> u8 {
+    refusal.map_or(0, |r| u8::try_from(r.number).unwrap_or(u8::MAX))
+}
+
 // A count in four bytes.
-pub fn count4(count: usize) -> u32 {
+pub(crate) fn count4(count: usize) -> u32 {
     u32::try_from(count).unwrap_or(u32::MAX)
 }

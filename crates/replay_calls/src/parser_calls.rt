@@ -1,13 +1,11 @@
 // The calls of a bare parser: operations 30 to 32.
-use crate::answer::{Answer, Part, State, area};
-use crate::frames::{AREA, Frame};
-use crate::operations::ParserCall;
 use parser::{Complete, Progress, RecordParser, payload, push};
+use record::types::ErrorCode;
+use replay::answer::{Answer, Part, State};
+use replay::frames::{Frame, PARSER_STAGE};
+use replay::operations::ParserCall;
 use session::Identity;
 use wire::errors::Error;
-
-// Where the stage stands in the memory.
-const STAGE: usize = 2 * AREA;
 
 // What a push did, with the record that it completed.
 fn progressed(progress: Progress, piece: &[u8], stage: &[u8]) -> Answer {
@@ -27,11 +25,11 @@ fn progressed(progress: Progress, piece: &[u8], stage: &[u8]) -> Answer {
         identity: Some(Identity::from(record)),
         window: record.window(bytes),
         credit: record.credit(bytes),
-        error_code: record.error_code(bytes).map(|code| code.code()),
+        error_code: record.error_code(bytes).map(ErrorCode::code),
         record_type: record.record_type.code(),
         payload: Part::Payload {
             place,
-            stage: STAGE,
+            stage: PARSER_STAGE,
             length: record.length,
         },
         ..Answer::default()
@@ -39,13 +37,13 @@ fn progressed(progress: Progress, piece: &[u8], stage: &[u8]) -> Answer {
 }
 
 fn push(parser: &mut RecordParser, f: Frame<'_>, memory: &mut [u8]) -> Answer {
-    let pushed = push::push(*parser, f.input, f.stage(memory, STAGE));
+    let stage = f.stage(memory, PARSER_STAGE);
+    let pushed = push::push(*parser, f.input, stage);
     *parser = pushed.parser;
-    let stage = area(memory, STAGE);
-    pushed.answer.map_or_else(
-        Answer::from,
-        |progress| progressed(progress, f.input, stage),
-    )
+    match pushed.answer {
+        Ok(progress) => progressed(progress, f.input, stage),
+        Err(error) => Answer::from(error),
+    }
 }
 
 // buffered and needed.
@@ -58,7 +56,7 @@ fn asks(parser: RecordParser) -> Result<Answer, Error> {
 }
 
 // Runs a call. Its answer shows the parser.
-pub fn turn(
+pub(crate) fn turn(
     parser: &mut RecordParser,
     call: ParserCall,
     f: Frame<'_>,
@@ -70,7 +68,7 @@ pub fn turn(
             *parser = RecordParser::new();
             Answer::default()
         }
-        ParserCall::Asks => asks(*parser).unwrap_or_else(Answer::from),
+        ParserCall::Asks => Answer::from(asks(*parser)),
     };
     Answer {
         state: State::Parser(*parser),
