@@ -1,19 +1,18 @@
 // decode_outer_header: the fields it reads, and refusals 25 and 26.
-use crate::answer::Answer;
+use crate::refused;
 use outer::decode_outer_header;
 use print::{Fields, Hex};
 use std::io;
 use wire::header::encode_header;
 use wire::{Epoch, Sequence};
 
-// What the decoder answers.
-fn decoded(header: [u8; 44]) -> Answer<Fields> {
-    Answer(decode_outer_header(header).map(Fields))
-}
-
 // One header's bytes, and its fields or the refusal.
 pub fn decode(rt: &impl Print, header: [u8; 44]) -> io::Result<()> {
-    println!(rt; "decode_outer_header {}: {}", Hex(header), decoded(header))
+    print!(rt; "decode_outer_header {}: ", Hex(header))?;
+    match decode_outer_header(header) {
+        Ok(fields) => println!(rt; "{}", Fields(fields)),
+        Err(error) => refused(rt, error),
+    }
 }
 
 // The header of a record of epoch 7 and sequence 1.
