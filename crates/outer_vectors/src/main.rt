@@ -11,13 +11,10 @@ use wire::errors::Error;
 
 fn main(rt: HostRuntime) -> io::Result<()> {
     records::reset(&rt)?;
-    headers::places(&rt)?;
-    headers::types(&rt)?;
-    records::lengths(&rt)?;
+    headers::values(&rt)?;
     records::positions(&rt)?;
     records::limits(&rt)?;
     headers::wrong(&rt)?;
-    headers::lengths(&rt)?;
     pairs::values(&rt)?;
     pairs::lengths(&rt)
 }

@@ -16,7 +16,7 @@ fn encoded(
 ) -> io::Result<()> {
     print!(rt; "encode_{pair}_payload {value}: ")?;
     match answer {
-        Ok(payload) => println!(rt; "{}", Hex(payload)),
+        Ok(payload) => println!(rt; "{}", Hex(&payload)),
         Err(error) => refused(rt, error),
     }
 }

@@ -19,7 +19,7 @@ fn written(rt: &impl Print, answer: Result<usize, Error>) -> io::Result<()> {
 pub fn reset(rt: &impl Print) -> io::Result<()> {
     let mut output = [0xAAu8; 44];
     let answer = encode_outer(3, [0x11u8; 16], Epoch(7), Sequence(0), b"", &mut output, 0);
-    print!(rt; "encode_outer type 3 epoch 7 sequence 0: {} ", Hex(output))?;
+    print!(rt; "encode_outer type 3 epoch 7 sequence 0: {} ", Hex(&output))?;
     written(rt, answer)?;
     decode(rt, output)
 }
@@ -37,24 +37,20 @@ fn encode(rt: &impl Print, payload: &[u8], output: &mut [u8], at: usize) -> io::
 
 // The whole output before and after a record of 47 bytes, a DATA of three.
 fn shown(rt: &impl Print, output: &mut [u8], at: usize) -> io::Result<()> {
-    println!(rt; "before {}", Hex(&*output))?;
+    println!(rt; "before {}", Hex(output))?;
     encode(rt, b"abc", output, at)?;
-    println!(rt; "after  {}", Hex(&*output))
+    println!(rt; "after  {}", Hex(output))
 }
 
-// In an output of 51 bytes: within it, the last position that fits, one more, the end, one past the
-// end, the largest number.
+// In outputs of 47 bytes and of one less. Then in one of 51 bytes: within it, the last position that
+// fits, one more, the end, one past the end, the largest number.
 pub fn positions(rt: &impl Print) -> io::Result<()> {
+    shown(rt, &mut [0xAAu8; 47], 0)?;
+    shown(rt, &mut [0xAAu8; 46], 0)?;
     for at in [2, 4, 5, 51, 52, usize::MAX] {
         shown(rt, &mut [0xAAu8; 51], at)?;
     }
     Ok(())
-}
-
-// Outputs that are exactly long enough, and one byte short.
-pub fn lengths(rt: &impl Print) -> io::Result<()> {
-    shown(rt, &mut [0xAAu8; 47], 0)?;
-    shown(rt, &mut [0xAAu8; 46], 0)
 }
 
 // A payload at position 2 of 65,584, and the first and last four bytes of the output. A payload of

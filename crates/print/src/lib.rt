@@ -5,18 +5,17 @@ ghost use Rattle.std.specs.Prelude.{Some};
 ghost use Rattle.print.specs.Text.{hex, fields};
 
 use outer::OuterHeader;
-use std::convert::AsSlice;
 use std::fmt;
 
 // Bytes in upper-case hexadecimal, two digits for each.
 #[derive(Clone, Copy)]
-pub struct Hex<T>(pub T);
+pub struct Hex<'a>(pub &'a [u8]);
 
-impl<T: AsSlice<u8>> fmt::Display for Hex<T> {
-    ghost output = { λ bytes. Some (hex (T.items bytes.0)) };
+impl<'a> fmt::Display for Hex<'a> {
+    ghost output = { λ bytes. Some (hex bytes.0.now) };
 
     fn fmt<W: fmt::Write>(&self, f: &mut fmt::Formatter<W>) -> fmt::Result {
-        for byte in self.0.as_slice() {
+        for &byte in self.0 {
             write!(f, "{byte:02X}")?;
         }
         Ok(())
@@ -36,7 +35,7 @@ impl fmt::Display for Fields {
             f,
             "type {} instance {} epoch {} sequence {} length {}",
             header.record_type,
-            Hex(header.instance_id),
+            Hex(&header.instance_id),
             header.epoch.0,
             header.sequence.0,
             header.length
