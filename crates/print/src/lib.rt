@@ -1,11 +1,12 @@
-// What both programs of worked vectors print: bytes in hexadecimal, and a record's fields.
+// What the programs of worked vectors print: bytes in hexadecimal, a record's fields, a case, a refusal.
 #![tactic(auto)]
 
 ghost use Rattle.std.specs.Prelude.{Some};
-ghost use Rattle.print.specs.Text.{hex, fields};
+ghost use Rattle.print.specs.Text.{hex, fields, case, refused};
 
 use outer::OuterHeader;
 use std::fmt;
+use wire::Refusal;
 
 // Bytes in upper-case hexadecimal, two digits for each.
 #[derive(Clone, Copy)]
@@ -40,5 +41,36 @@ impl fmt::Display for Fields {
             header.sequence.0,
             header.length
         )
+    }
+}
+
+// A record to try: its fields, and a payload of four bytes.
+#[derive(Clone, Copy)]
+pub struct Case<'a> {
+    pub header: OuterHeader,
+    pub payload: &'a [u8],
+}
+
+impl<'a> fmt::Display for Case<'a> {
+    ghost output = { λ shown. Some (case shown.header shown.payload.now) };
+
+    fn fmt<W: fmt::Write>(&self, f: &mut fmt::Formatter<W>) -> fmt::Result {
+        write!(f, "{}", Fields(self.header))?;
+        if self.payload.len() == 4 {
+            write!(f, " payload {}", Hex(self.payload))?;
+        }
+        Ok(())
+    }
+}
+
+// A refusal's number and its first two figures.
+#[derive(Clone, Copy)]
+pub struct Refused(pub Refusal);
+
+impl fmt::Display for Refused {
+    ghost output = { λ shown. Some (refused shown.0) };
+
+    fn fmt<W: fmt::Write>(&self, f: &mut fmt::Formatter<W>) -> fmt::Result {
+        write!(f, "refusal {} a {} b {}", self.0.number, self.0.a, self.0.b)
     }
 }
