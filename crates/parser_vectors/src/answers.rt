@@ -16,9 +16,10 @@ pub fn consumed(pushed: Pushed) -> usize {
 
 // A complete record: its fields, the number in its payload, and the payload's first four bytes.
 fn complete(rt: &impl Print, record: Record, payload: &[u8]) -> io::Result<()> {
+    let instance_id = record.instance_id;
     let header = OuterHeader {
         record_type: record.record_type.code(),
-        instance_id: record.instance_id,
+        instance_id,
         epoch: record.epoch,
         sequence: record.sequence,
         length: record.length,

@@ -78,9 +78,19 @@ pub fn values(rt: &impl Print) -> io::Result<()> {
     Ok(())
 }
 
-// The header of a RESET with other bytes at two indexes, which give 1, 2, 3, 4 or 5: each byte of magic
-// and version, unknown types, flags. Where two fields are wrong the first counts: an unknown type
-// before the flags, the flags before the length.
+// The header of a RESET with other bytes at some indexes.
+fn changed(changes: &[(usize, u8)]) -> [u8; 44] {
+    let mut header = encode_header(3, [0x11u8; 16], Epoch(7), Sequence(0), 0);
+    for (index, byte) in changes {
+        if let Some(place) = header.get_mut(*index) {
+            *place = *byte;
+        }
+    }
+    header
+}
+
+// Each byte of magic and version, unknown types, flags: 1, 2, 3 and 4. Where two fields are wrong the
+// first counts: an unknown type before the flags, the flags before the length (5).
 pub fn headers(rt: &impl Print) -> io::Result<()> {
     let cases: [&[(usize, u8)]; 16] = [
         &[(0, 0x4F)],
@@ -101,12 +111,7 @@ pub fn headers(rt: &impl Print) -> io::Result<()> {
         &[(43, 1)],
     ];
     for changes in cases {
-        let mut header = encode_header(3, [0x11u8; 16], Epoch(7), Sequence(0), 0);
-        for (index, byte) in changes {
-            if let Some(place) = header.get_mut(*index) {
-                *place = *byte;
-            }
-        }
+        let header = changed(changes);
         print!(rt; "push {}", Hex(&header))?;
         in_pieces(rt, &header, 7)?;
     }
