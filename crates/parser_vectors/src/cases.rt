@@ -1,6 +1,5 @@
 // The records and headers that are pushed.
 use crate::streams::{in_pieces, record};
-use outer::OuterHeader;
 use print::Hex;
 use std::io;
 use wire::header::encode_header;
@@ -8,56 +7,72 @@ use wire::{Epoch, Sequence};
 
 // A record with fields that its type may carry: those of types 1 and 2 are zero.
 fn typical(rt: &impl Print, record_type: u8, payload: &[u8], n: usize) -> io::Result<()> {
-    let (byte, epoch, sequence) = if record_type < 3 {
-        (0, 0, 0)
+    if record_type < 3 {
+        record(
+            rt,
+            record_type,
+            [0u8; 16],
+            Epoch(0),
+            Sequence(0),
+            payload,
+            n,
+        )
     } else {
-        (0x11, 7, 1)
-    };
-    let header = OuterHeader {
-        record_type,
-        instance_id: [byte; 16],
-        epoch: Epoch(epoch),
-        sequence: Sequence(sequence),
-        length: payload.len(),
-    };
-    record(rt, header, payload, n)
+        record(
+            rt,
+            record_type,
+            [0x11u8; 16],
+            Epoch(7),
+            Sequence(1),
+            payload,
+            n,
+        )
+    }
 }
 
-// For each type the payload lengths that it allows and their neighbours, each with the length of the
-// pieces; others give 5. M4: no DATA is empty; one of 65,536 bytes and one of one more. A long payload
-// comes in several pieces, then whole in one.
+// For each type but DATA the payload lengths that it allows and their neighbours; others give 5.
 pub fn lengths(rt: &impl Print) -> io::Result<()> {
-    let long = [0x55u8; 65537];
-    let cases: [(u8, &[u8], &[(usize, usize)]); 9] = [
-        (1, &long, &[(0, 7), (1, 7)]),
-        (2, &[0x33u8; 33], &[(31, 50), (32, 50), (33, 50)]),
-        (3, &long, &[(0, 7), (1, 7)]),
-        (4, b"\0\0\x01\0\0", &[(3, 7), (4, 7), (5, 7)]),
-        (
-            5,
-            &long,
-            &[
-                (0, 65581),
-                (1, 1),
-                (2, 45),
-                (65535, 4096),
-                (65536, 65536),
-                (65537, 65536),
-                (65536, 65580),
-                (65537, 65580),
-            ],
-        ),
-        (6, &long, &[(0, 7), (1, 7)]),
-        (7, &long, &[(0, 7), (1, 7)]),
-        (8, b"\x01\0\0\0\0", &[(3, 7), (4, 7), (5, 7)]),
-        (9, b"\x01\0\0\0\0", &[(3, 7), (4, 7), (5, 7)]),
-    ];
-    for (record_type, bytes, counts) in cases {
-        for (count, n) in counts {
-            if let Some(payload) = bytes.get(..*count) {
-                typical(rt, record_type, payload, *n)?;
+    let capability = [0x33u8; 33];
+    for (record_type, first, last, n) in [
+        (1, 0, 1, 7),
+        (2, 31, 33, 50),
+        (3, 0, 1, 7),
+        (4, 3, 5, 7),
+        (6, 0, 1, 7),
+        (7, 0, 1, 7),
+        (8, 3, 5, 7),
+        (9, 3, 5, 7),
+    ] {
+        let bytes: &[u8] = match record_type {
+            2 => &capability,
+            4 => b"\0\0\x01\0\0",
+            8 | 9 => b"\x01\0\0\0\0",
+            _ => b"\x55",
+        };
+        for count in first..=last {
+            if let Some(payload) = bytes.get(..count) {
+                typical(rt, record_type, payload, n)?;
             }
         }
+    }
+    Ok(())
+}
+
+// M4: no DATA is empty; one of 65,536 bytes and one of one more. A long payload comes in several
+// pieces, then whole in one.
+pub fn data(rt: &impl Print) -> io::Result<()> {
+    let bytes = [0x55u8; 65537];
+    for (count, n) in [
+        (0, 65581),
+        (1, 1),
+        (2, 45),
+        (65535, 4096),
+        (65536, 65536),
+        (65537, 65536),
+        (65536, 65580),
+        (65537, 65580),
+    ] {
+        typical(rt, 5, &bytes[..count], n)?;
     }
     Ok(())
 }
@@ -65,15 +80,20 @@ pub fn lengths(rt: &impl Print) -> io::Result<()> {
 // M2, M3: both ends of a window's range, and the next beyond each; the same of a credit; the one
 // error value, and its neighbours. Others give 8, 9 and 7. The pieces end within header and payload.
 pub fn values(rt: &impl Print) -> io::Result<()> {
-    let cases: [(u8, &[u32]); 3] = [
-        (4, &[65535, 65536, 4194314, 4194315]),
-        (9, &[0, 1, 4194314, 4194315]),
-        (8, &[0, 1, 2]),
-    ];
-    for (record_type, numbers) in cases {
-        for number in numbers {
-            typical(rt, record_type, &number.to_le_bytes(), 23)?;
-        }
+    for (record_type, number) in [
+        (4, 65535),
+        (4, 65536),
+        (4, 4194314),
+        (4, 4194315),
+        (9, 0),
+        (9, 1),
+        (9, 4194314),
+        (9, 4194315),
+        (8, 0),
+        (8, 1),
+        (8, 2),
+    ] {
+        typical(rt, record_type, &u32::to_le_bytes(number), 23)?;
     }
     Ok(())
 }
@@ -122,25 +142,30 @@ pub fn headers(rt: &impl Print) -> io::Result<()> {
 // sequence, which gives 6; then a RESET whose fields are all zero, which the parser accepts.
 pub fn identities(rt: &impl Print) -> io::Result<()> {
     let capability = [0x33u8; 32];
-    for (record_type, payload, last, epoch, sequence) in [
-        (1, b"" as &[u8], 1, 0, 0),
-        (1, b"", 0, 1, 0),
-        (1, b"", 0, 0, 1),
-        (2, &capability, 1, 0, 0),
-        (2, &capability, 0, 1, 0),
-        (2, &capability, 0, 0, 1),
-        (3, b"", 0, 0, 0),
+    for (record_type, last, epoch, sequence) in [
+        (1, 1, 0, 0),
+        (1, 0, 1, 0),
+        (1, 0, 0, 1),
+        (2, 1, 0, 0),
+        (2, 0, 1, 0),
+        (2, 0, 0, 1),
+        (3, 0, 0, 0),
     ] {
         let mut instance_id = [0u8; 16];
         instance_id[15] = last;
-        let header = OuterHeader {
+        let payload: &[u8] = match record_type {
+            2 => &capability,
+            _ => b"",
+        };
+        record(
+            rt,
             record_type,
             instance_id,
-            epoch: Epoch(epoch),
-            sequence: Sequence(sequence),
-            length: payload.len(),
-        };
-        record(rt, header, payload, 80)?;
+            Epoch(epoch),
+            Sequence(sequence),
+            payload,
+            80,
+        )?;
     }
     Ok(())
 }

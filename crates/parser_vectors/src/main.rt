@@ -9,6 +9,7 @@ use std::io;
 
 fn main(rt: HostRuntime) -> io::Result<()> {
     cases::lengths(&rt)?;
+    cases::data(&rt)?;
     cases::values(&rt)?;
     cases::headers(&rt)?;
     cases::identities(&rt)?;

@@ -25,24 +25,29 @@ pub fn in_pieces(rt: &impl Print, bytes: &[u8], n: usize) -> io::Result<()> {
     println!(rt; "taken {taken} no record")
 }
 
-// A record's bytes put together unchecked, behind others.
-fn put(header: OuterHeader, payload: &[u8], output: &mut [u8], at: usize) -> usize {
-    let length = u32::try_from(payload.len()).unwrap_or(u32::MAX);
-    let header = encode_header(
-        header.record_type,
-        header.instance_id,
-        header.epoch,
-        header.sequence,
+// A record put together unchecked, in pieces of `n` bytes.
+pub fn record(
+    rt: &impl Print,
+    record_type: u8,
+    instance_id: [u8; 16],
+    epoch: Epoch,
+    sequence: Sequence,
+    payload: &[u8],
+    n: usize,
+) -> io::Result<()> {
+    let length = payload.len();
+    let header = OuterHeader {
+        record_type,
+        instance_id,
+        epoch,
+        sequence,
         length,
-    );
-    put_record(header, payload, output, at).unwrap_or(at)
-}
-
-// A record in pieces of `n` bytes.
-pub fn record(rt: &impl Print, header: OuterHeader, payload: &[u8], n: usize) -> io::Result<()> {
-    let mut output = [0u8; 65581];
-    let end = put(header, payload, &mut output, 0);
+    };
     print!(rt; "push {}", Case { header, payload })?;
+    let length = u32::try_from(length).unwrap_or(u32::MAX);
+    let header = encode_header(record_type, instance_id, epoch, sequence, length);
+    let mut output = [0u8; 65581];
+    let end = put_record(header, payload, &mut output, 0).unwrap_or(0);
     in_pieces(rt, output.get(..end).unwrap_or(&output), n)
 }
 
@@ -68,20 +73,10 @@ pub fn all_ones(rt: &impl Print) -> io::Result<()> {
 // A CREDIT and a DATA one behind the other: a push takes one record and no byte of the next.
 pub fn two_records(rt: &impl Print) -> io::Result<()> {
     let mut bytes = [0u8; 95];
-    let credit = OuterHeader {
-        record_type: 9,
-        instance_id: [0x22u8; 16],
-        epoch: Epoch(7),
-        sequence: Sequence(2),
-        length: 4,
-    };
-    let data = OuterHeader {
-        record_type: 5,
-        sequence: Sequence(3),
-        length: 3,
-        ..credit
-    };
-    let next = put(credit, b"\x03\0\0\0", &mut bytes, 0);
-    put(data, b"abc", &mut bytes, next);
+    let instance_id = [0x22u8; 16];
+    let credit = encode_header(9, instance_id, Epoch(7), Sequence(2), 4);
+    let data = encode_header(5, instance_id, Epoch(7), Sequence(3), 3);
+    let next = put_record(credit, b"\x03\0\0\0", &mut bytes, 0).unwrap_or(0);
+    let _end = put_record(data, b"abc", &mut bytes, next);
     push_each(rt, &[&bytes, &bytes[48..93], &bytes[93..]])
 }

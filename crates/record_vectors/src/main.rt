@@ -8,6 +8,7 @@ use std::io;
 
 fn main(rt: HostRuntime) -> io::Result<()> {
     cases::lengths(&rt)?;
+    cases::data(&rt)?;
     cases::values(&rt)?;
     cases::identities(&rt)?;
     records::two(&rt)
