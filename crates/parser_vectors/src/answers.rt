@@ -14,6 +14,19 @@ pub fn consumed(pushed: Pushed) -> usize {
     }
 }
 
+// The number in a record's payload, with its name.
+fn number(record: Record, payload: &[u8]) -> Option<(&'static str, u32)> {
+    if let Some(window) = record.window(payload) {
+        Some(("window", window))
+    } else if let Some(credit) = record.credit(payload) {
+        Some(("credit", credit))
+    } else if let Some(error) = record.error_code(payload) {
+        Some(("error", error.code()))
+    } else {
+        None
+    }
+}
+
 // A complete record: its fields, the number in its payload, and the payload's first four bytes.
 fn complete(rt: &impl Print, record: Record, payload: &[u8]) -> io::Result<()> {
     let instance_id = record.instance_id;
@@ -25,14 +38,8 @@ fn complete(rt: &impl Print, record: Record, payload: &[u8]) -> io::Result<()> {
         length: record.length,
     };
     print!(rt; "{}", Fields(header))?;
-    if let Some(window) = record.window(payload) {
-        print!(rt; " window {window}")?;
-    }
-    if let Some(credit) = record.credit(payload) {
-        print!(rt; " credit {credit}")?;
-    }
-    if let Some(code) = record.error_code(payload) {
-        print!(rt; " error {}", code.code())?;
+    if let Some((name, value)) = number(record, payload) {
+        print!(rt; " {name} {value}")?;
     }
     if payload.is_empty() {
         return Ok(());
@@ -47,15 +54,8 @@ fn counts(rt: &impl Print, parser: RecordParser) -> io::Result<()> {
     println!(rt; " needed {needed} buffered {buffered}")
 }
 
-// What a push answered. `taken` counts the bytes that it and the pushes before it took.
-pub fn answer(
-    rt: &impl Print,
-    pushed: Pushed,
-    taken: usize,
-    piece: &[u8],
-    stage: &[u8],
-) -> io::Result<()> {
-    print!(rt; "taken {taken} ")?;
+// What a push answered.
+pub fn answer(rt: &impl Print, pushed: Pushed, piece: &[u8], stage: &[u8]) -> io::Result<()> {
     match pushed.answer {
         Ok(
             Progress {

@@ -30,14 +30,22 @@ fn typical(rt: &impl Print, record_type: u8, payload: &[u8], n: usize) -> io::Re
     }
 }
 
-// For each type but DATA the payload lengths that it allows and their neighbours; others give 5.
+// For each type the payload lengths that it allows and their neighbours, from one to another, in pieces
+// of `n`; others give 5. M4: no DATA is empty; one of 65,536 bytes and one of one more. A long payload
+// comes in several pieces, then whole in one.
 pub fn lengths(rt: &impl Print) -> io::Result<()> {
-    let capability = [0x33u8; 33];
+    let (capability, long) = ([0x33u8; 33], [0x55u8; 65537]);
     for (record_type, first, last, n) in [
         (1, 0, 1, 7),
         (2, 31, 33, 50),
         (3, 0, 1, 7),
         (4, 3, 5, 7),
+        (5, 0, 0, 65581),
+        (5, 1, 1, 1),
+        (5, 2, 2, 45),
+        (5, 65535, 65535, 4096),
+        (5, 65536, 65537, 65536),
+        (5, 65536, 65537, 65580),
         (6, 0, 1, 7),
         (7, 0, 1, 7),
         (8, 3, 5, 7),
@@ -47,32 +55,13 @@ pub fn lengths(rt: &impl Print) -> io::Result<()> {
             2 => &capability,
             4 => b"\0\0\x01\0\0",
             8 | 9 => b"\x01\0\0\0\0",
-            _ => b"\x55",
+            _ => &long,
         };
         for count in first..=last {
             if let Some(payload) = bytes.get(..count) {
                 typical(rt, record_type, payload, n)?;
             }
         }
-    }
-    Ok(())
-}
-
-// M4: no DATA is empty; one of 65,536 bytes and one of one more. A long payload comes in several
-// pieces, then whole in one.
-pub fn data(rt: &impl Print) -> io::Result<()> {
-    let bytes = [0x55u8; 65537];
-    for (count, n) in [
-        (0, 65581),
-        (1, 1),
-        (2, 45),
-        (65535, 4096),
-        (65536, 65536),
-        (65537, 65536),
-        (65536, 65580),
-        (65537, 65580),
-    ] {
-        typical(rt, 5, &bytes[..count], n)?;
     }
     Ok(())
 }
@@ -98,41 +87,36 @@ pub fn values(rt: &impl Print) -> io::Result<()> {
     Ok(())
 }
 
-// The header of a RESET with other bytes at some indexes.
-fn changed(changes: &[(usize, u8)]) -> [u8; 44] {
-    let mut header = encode_header(3, [0x11u8; 16], Epoch(7), Sequence(0), 0);
-    for (index, byte) in changes {
-        if let Some(place) = header.get_mut(*index) {
-            *place = *byte;
-        }
-    }
-    header
-}
-
-// Each byte of magic and version, unknown types, flags: 1, 2, 3 and 4. Where two fields are wrong the
-// first counts: an unknown type before the flags, the flags before the length (5).
+// The header of a RESET with two of its bytes given anew; byte 8, the first of the instance, stays as it
+// was. Each byte of magic and version, unknown types, flags: 1, 2, 3 and 4. Where two fields are wrong
+// the first counts: an unknown type before the flags, the flags before the length (5).
 pub fn headers(rt: &impl Print) -> io::Result<()> {
-    let cases: [&[(usize, u8)]; 16] = [
-        &[(0, 0x4F)],
-        &[(1, 0x57)],
-        &[(2, 0x59)],
-        &[(3, 0x54)],
-        &[(4, 2)],
-        &[(5, 1)],
-        &[(6, 0)],
-        &[(6, 10)],
-        &[(6, 255)],
-        &[(7, 1)],
-        &[(7, 128)],
-        &[(3, 0x54), (4, 2)],
-        &[(4, 2), (6, 10)],
-        &[(6, 10), (7, 1)],
-        &[(7, 1), (40, 1)],
-        &[(43, 1)],
-    ];
-    for changes in cases {
-        let header = changed(changes);
-        print!(rt; "push {}", Hex(&header))?;
+    for (index, byte, second, other) in [
+        (0, 0x4F, 8, 0x11),
+        (1, 0x57, 8, 0x11),
+        (2, 0x59, 8, 0x11),
+        (3, 0x54, 8, 0x11),
+        (4, 2, 8, 0x11),
+        (5, 1, 8, 0x11),
+        (6, 0, 8, 0x11),
+        (6, 10, 8, 0x11),
+        (6, 255, 8, 0x11),
+        (7, 1, 8, 0x11),
+        (7, 128, 8, 0x11),
+        (3, 0x54, 4, 2),
+        (4, 2, 6, 10),
+        (6, 10, 7, 1),
+        (7, 1, 40, 1),
+        (43, 1, 8, 0x11),
+    ] {
+        let mut header = encode_header(3, [0x11u8; 16], Epoch(7), Sequence(0), 0);
+        if let Some(place) = header.get_mut(index) {
+            *place = byte;
+        }
+        if let Some(place) = header.get_mut(second) {
+            *place = other;
+        }
+        print!(rt; "push {} in pieces of 7: ", Hex(&header))?;
         in_pieces(rt, &header, 7)?;
     }
     Ok(())

@@ -9,7 +9,6 @@ use std::io;
 
 fn main(rt: HostRuntime) -> io::Result<()> {
     cases::lengths(&rt)?;
-    cases::data(&rt)?;
     cases::values(&rt)?;
     cases::headers(&rt)?;
     cases::identities(&rt)?;

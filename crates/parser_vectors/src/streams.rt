@@ -8,9 +8,8 @@ use std::io;
 use wire::header::encode_header;
 use wire::{Epoch, Sequence};
 
-// Pieces of `n` bytes until a record is complete or refused, on a line.
+// Pieces of `n` bytes until a record is complete or refused: the end of a line.
 pub fn in_pieces(rt: &impl Print, bytes: &[u8], n: usize) -> io::Result<()> {
-    print!(rt; " in pieces of {n}: ")?;
     let mut stage = [0xAAu8; 65536];
     let mut parser = RecordParser::new();
     let mut taken: usize = 0;
@@ -19,10 +18,11 @@ pub fn in_pieces(rt: &impl Print, bytes: &[u8], n: usize) -> io::Result<()> {
         parser = pushed.parser;
         taken = taken.saturating_add(consumed(pushed));
         let Ok(Progress { complete: None, .. }) = pushed.answer else {
-            return answer(rt, pushed, taken, piece, &stage);
+            print!(rt; "taken {taken} ")?;
+            return answer(rt, pushed, piece, &stage);
         };
     }
-    println!(rt; "taken {taken} no record")
+    println!(rt; "no record")
 }
 
 // A record put together unchecked, in pieces of `n` bytes.
@@ -43,7 +43,7 @@ pub fn record(
         sequence,
         length,
     };
-    print!(rt; "push {}", Case { header, payload })?;
+    print!(rt; "push {} in pieces of {n}: ", Case { header, payload })?;
     let length = u32::try_from(length).unwrap_or(u32::MAX);
     let header = encode_header(record_type, instance_id, epoch, sequence, length);
     let mut output = [0u8; 65581];
@@ -58,8 +58,8 @@ fn push_each(rt: &impl Print, pieces: &[&[u8]]) -> io::Result<()> {
     for piece in pieces {
         let pushed = push(parser, piece, &mut stage);
         parser = pushed.parser;
-        print!(rt; "push {} bytes: ", piece.len())?;
-        answer(rt, pushed, consumed(pushed), piece, &stage)?;
+        print!(rt; "push {} bytes: taken {} ", piece.len(), consumed(pushed))?;
+        answer(rt, pushed, piece, &stage)?;
     }
     Ok(())
 }

@@ -4,14 +4,17 @@ use record::types::RecordType;
 use std::io;
 use wire::{Epoch, Sequence};
 
-// For each type but DATA the payload lengths that it allows and their neighbours; others give 5.
+// For each type the payload lengths that it allows and their neighbours, from one to another; others give
+// 5. M4: no DATA is empty; one of 65,536 bytes and one of one more.
 pub fn lengths(rt: &impl Print) -> io::Result<()> {
-    let capability = [0x33u8; 33];
+    let (capability, long) = ([0x33u8; 33], [0x55u8; 65537]);
     for (record_type, first, last) in [
         (RecordType::GuestAttach, 0, 1),
         (RecordType::HostAttach, 31, 33),
         (RecordType::Reset, 0, 1),
         (RecordType::Ack, 3, 5),
+        (RecordType::Data, 0, 2),
+        (RecordType::Data, 65535, 65537),
         (RecordType::Wait, 0, 1),
         (RecordType::Ready, 0, 1),
         (RecordType::Error, 3, 5),
@@ -21,22 +24,13 @@ pub fn lengths(rt: &impl Print) -> io::Result<()> {
             RecordType::HostAttach => &capability,
             RecordType::Ack => b"\0\0\x01\0\0",
             RecordType::Error | RecordType::Credit => b"\x01\0\0\0\0",
-            _ => b"\x55",
+            _ => &long,
         };
         for count in first..=last {
             if let Some(payload) = bytes.get(..count) {
                 typical(rt, record_type, payload)?;
             }
         }
-    }
-    Ok(())
-}
-
-// M4: no DATA is empty; one of 65,536 bytes and one of one more.
-pub fn data(rt: &impl Print) -> io::Result<()> {
-    let bytes = [0x55u8; 65537];
-    for count in [0, 1, 2, 65535, 65536, 65537] {
-        typical(rt, RecordType::Data, &bytes[..count])?;
     }
     Ok(())
 }

@@ -8,7 +8,6 @@ use std::io;
 
 fn main(rt: HostRuntime) -> io::Result<()> {
     cases::lengths(&rt)?;
-    cases::data(&rt)?;
     cases::values(&rt)?;
     cases::identities(&rt)?;
     records::two(&rt)
