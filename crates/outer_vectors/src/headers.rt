@@ -1,15 +1,18 @@
 // decode_outer_header: the fields it reads, and refusals 25 and 26.
+use crate::refused;
 use outer::decode_outer_header;
-use print::Hex;
-use print::answers::Header;
+use print::{Fields, Hex};
 use std::io;
 use wire::header::encode_header;
 use wire::{Epoch, Sequence};
 
 // One header's bytes, and its fields or the refusal.
 pub fn decode(rt: &impl Print, header: [u8; 44]) -> io::Result<()> {
-    let answer = decode_outer_header(header);
-    println!(rt; "decode_outer_header {}: {}", Hex(&header), Header(answer))
+    print!(rt; "decode_outer_header {}: ", Hex(&header))?;
+    match decode_outer_header(header) {
+        Ok(fields) => println!(rt; "{}", Fields(fields)),
+        Err(error) => refused(rt, error),
+    }
 }
 
 // Bytes that all differ, and the largest numbers; then types that no record has: any type byte passes.

@@ -6,6 +6,8 @@ mod pairs;
 mod records;
 
 use std::io;
+use wire::Refusal;
+use wire::errors::Error;
 
 fn main(rt: HostRuntime) -> io::Result<()> {
     records::reset(&rt)?;
@@ -15,4 +17,9 @@ fn main(rt: HostRuntime) -> io::Result<()> {
     headers::wrong(&rt)?;
     pairs::values(&rt)?;
     pairs::lengths(&rt)
+}
+
+// The end of a refused call's line: the number. The plain layer gives a refusal no figures.
+fn refused(rt: &impl Print, error: Error) -> io::Result<()> {
+    println!(rt; "refusal {}", Refusal::from(error).number)
 }

@@ -1,63 +1,64 @@
 // The ack and credit payload pairs: the bytes and values, and refusals 27, 28 and 29.
+use crate::refused;
 use outer::payloads::{
     decode_ack_payload, decode_credit_payload, encode_ack_payload, encode_credit_payload,
 };
 use print::Hex;
-use print::answers::{Number, Payload};
 use std::io;
+use wire::errors::Error;
 
-// What an encoder gave of a value, and a decoder of the value's four bytes.
-fn pair(
+// A value, and the payload that its encoder gave.
+fn encoded(
     rt: &impl Print,
-    name: &str,
+    pair: &str,
     value: u32,
-    encoded: Payload,
-    decoded: Number,
+    answer: Result<[u8; 4], Error>,
 ) -> io::Result<()> {
-    println!(rt; "encode_{name}_payload {value}: {encoded}")?;
-    payload(rt, name, &value.to_le_bytes(), decoded)
+    print!(rt; "encode_{pair}_payload {value}: ")?;
+    match answer {
+        Ok(payload) => println!(rt; "{}", Hex(&payload)),
+        Err(error) => refused(rt, error),
+    }
 }
 
-// What a decoder gave of a payload.
-fn payload(rt: &impl Print, name: &str, bytes: &[u8], decoded: Number) -> io::Result<()> {
-    println!(rt; "decode_{name}_payload {}: {decoded}", Hex(bytes))
+// A payload, and the value that its decoder gave.
+fn decoded(
+    rt: &impl Print,
+    pair: &str,
+    payload: &[u8],
+    answer: Result<u32, Error>,
+) -> io::Result<()> {
+    print!(rt; "decode_{pair}_payload {}: ", Hex(payload))?;
+    match answer {
+        Ok(value) => println!(rt; "{value}"),
+        Err(error) => refused(rt, error),
+    }
 }
 
-// Both ends of a window's range, and the next beyond each; then the same of a credit.
+// Both ends of a window's range, and the next beyond each; then the same of a credit. Each value
+// goes to the encoder, and its four bytes to the decoder.
 pub fn values(rt: &impl Print) -> io::Result<()> {
     for window in [65535, 65536, 4194314, 4194315] {
-        let decoded = decode_ack_payload(&u32::to_le_bytes(window));
-        pair(
-            rt,
-            "ack",
-            window,
-            Payload(encode_ack_payload(window)),
-            Number(decoded),
-        )?;
+        let payload = u32::to_le_bytes(window);
+        encoded(rt, "ack", window, encode_ack_payload(window))?;
+        decoded(rt, "ack", &payload, decode_ack_payload(&payload))?;
     }
     for bytes in [0, 1, 4194314, 4194315] {
-        let decoded = decode_credit_payload(&u32::to_le_bytes(bytes));
-        pair(
-            rt,
-            "credit",
-            bytes,
-            Payload(encode_credit_payload(bytes)),
-            Number(decoded),
-        )?;
+        let payload = u32::to_le_bytes(bytes);
+        encoded(rt, "credit", bytes, encode_credit_payload(bytes))?;
+        decoded(rt, "credit", &payload, decode_credit_payload(&payload))?;
     }
     Ok(())
 }
 
 // Payloads of 3, 4 and 5 bytes to both decoders.
 pub fn lengths(rt: &impl Print) -> io::Result<()> {
-    let bytes = [0u8, 0, 1, 0, 0];
-    for count in 3..6 {
-        let part = &bytes[..count];
-        payload(rt, "ack", part, Number(decode_ack_payload(part)))?;
+    let payloads: [&[u8]; 3] = [b"\0\0\x01", b"\0\0\x01\0", b"\0\0\x01\0\0"];
+    for payload in payloads {
+        decoded(rt, "ack", payload, decode_ack_payload(payload))?;
     }
-    for count in 3..6 {
-        let part = &bytes[..count];
-        payload(rt, "credit", part, Number(decode_credit_payload(part)))?;
+    for payload in payloads {
+        decoded(rt, "credit", payload, decode_credit_payload(payload))?;
     }
     Ok(())
 }

@@ -1,32 +1,38 @@
 // encode_outer: the bytes it writes, and refusals 22 and 24.
 use crate::headers::decode;
+use crate::refused;
 use outer::encode_outer;
 use print::Hex;
-use print::answers::Next;
 use std::io;
+use wire::errors::Error;
 use wire::{Epoch, Sequence};
+
+// The end of an encoder's line: the position after the record.
+fn written(rt: &impl Print, answer: Result<usize, Error>) -> io::Result<()> {
+    match answer {
+        Ok(next) => println!(rt; "next {next}"),
+        Err(error) => refused(rt, error),
+    }
+}
 
 // M1: a RESET without payload, there and back.
 pub fn reset(rt: &impl Print) -> io::Result<()> {
     let mut output = [0xAAu8; 44];
     let answer = encode_outer(3, [0x11u8; 16], Epoch(7), Sequence(0), b"", &mut output, 0);
-    println!(rt;
-        "encode_outer type 3 epoch 7 sequence 0: {} {}",
-        Hex(&output),
-        Next(answer)
-    )?;
+    print!(rt; "encode_outer type 3 epoch 7 sequence 0: {} ", Hex(&output))?;
+    written(rt, answer)?;
     decode(rt, output)
 }
 
 // A DATA of epoch 7 and sequence 1, at a position of an output.
 fn encode(rt: &impl Print, payload: &[u8], output: &mut [u8], at: usize) -> io::Result<()> {
-    let size = output.len();
-    let answer = encode_outer(5, [0x11u8; 16], Epoch(7), Sequence(1), payload, output, at);
-    println!(rt;
-        "encode_outer payload {} output {size} at {at}: {}",
+    print!(rt;
+        "encode_outer payload {} output {} at {at}: ",
         payload.len(),
-        Next(answer)
-    )
+        output.len()
+    )?;
+    let answer = encode_outer(5, [0x11u8; 16], Epoch(7), Sequence(1), payload, output, at);
+    written(rt, answer)
 }
 
 // The whole output before and after a record of 47 bytes, a DATA of three.

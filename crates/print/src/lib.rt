@@ -1,8 +1,5 @@
 // What the programs of worked vectors print: bytes in hexadecimal, a record's fields, a case, a refusal.
-// `answers` has what the plain layer answered.
 #![tactic(auto)]
-
-pub mod answers;
 
 ghost use Rattle.std.specs.Prelude.{Some};
 ghost use Rattle.print.specs.Text.{hex, fields, case, refused};
