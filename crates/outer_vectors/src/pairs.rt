@@ -53,11 +53,13 @@ pub fn values(rt: &impl Print) -> io::Result<()> {
 
 // Payloads of 3, 4 and 5 bytes to both decoders.
 pub fn lengths(rt: &impl Print) -> io::Result<()> {
-    let payloads: [&[u8]; 3] = [b"\0\0\x01", b"\0\0\x01\0", b"\0\0\x01\0\0"];
-    for payload in payloads {
+    let bytes = [0u8, 0, 1, 0, 0];
+    for count in 3..6 {
+        let payload = &bytes[..count];
         decoded(rt, "ack", payload, decode_ack_payload(payload))?;
     }
-    for payload in payloads {
+    for count in 3..6 {
+        let payload = &bytes[..count];
         decoded(rt, "credit", payload, decode_credit_payload(payload))?;
     }
     Ok(())

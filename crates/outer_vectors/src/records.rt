@@ -45,10 +45,20 @@ fn shown(rt: &impl Print, output: &mut [u8], at: usize) -> io::Result<()> {
 // In outputs of 47 bytes and of one less. Then in one of 51 bytes: within it, the last position that
 // fits, one more, the end, one past the end, the largest number.
 pub fn positions(rt: &impl Print) -> io::Result<()> {
-    shown(rt, &mut [0xAAu8; 47], 0)?;
-    shown(rt, &mut [0xAAu8; 46], 0)?;
-    for at in [2, 4, 5, 51, 52, usize::MAX] {
-        shown(rt, &mut [0xAAu8; 51], at)?;
+    for (size, at) in [
+        (47, 0),
+        (46, 0),
+        (51, 2),
+        (51, 4),
+        (51, 5),
+        (51, 51),
+        (51, 52),
+        (51, usize::MAX),
+    ] {
+        let mut output = [0xAAu8; 51];
+        if let Some(output) = output.get_mut(..size) {
+            shown(rt, output, at)?;
+        }
     }
     Ok(())
 }

@@ -116,8 +116,7 @@ pub fn headers(rt: &impl Print) -> io::Result<()> {
         if let Some(place) = header.get_mut(second) {
             *place = other;
         }
-        print!(rt; "push {} in pieces of 7: ", Hex(&header))?;
-        in_pieces(rt, &header, 7)?;
+        in_pieces(rt, &Hex(&header), &header, 7)?;
     }
     Ok(())
 }

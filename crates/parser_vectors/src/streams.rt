@@ -4,12 +4,18 @@ use outer::{OuterHeader, put_record};
 use parser::push::push;
 use parser::{Progress, RecordParser};
 use print::Case;
-use std::io;
+use std::{fmt, io};
 use wire::header::encode_header;
 use wire::{Epoch, Sequence};
 
-// Pieces of `n` bytes until a record is complete or refused: the end of a line.
-pub fn in_pieces(rt: &impl Print, bytes: &[u8], n: usize) -> io::Result<()> {
+// Pieces of `n` bytes until a record is complete or refused, on a line that begins with what they are.
+pub fn in_pieces(
+    rt: &impl Print,
+    what: &impl fmt::Display,
+    bytes: &[u8],
+    n: usize,
+) -> io::Result<()> {
+    print!(rt; "push {what} in pieces of {n}: ")?;
     let mut stage = [0xAAu8; 65536];
     let mut parser = RecordParser::new();
     let mut taken: usize = 0;
@@ -43,12 +49,12 @@ pub fn record(
         sequence,
         length,
     };
-    print!(rt; "push {} in pieces of {n}: ", Case { header, payload })?;
+    let what = Case { header, payload };
     let length = u32::try_from(length).unwrap_or(u32::MAX);
     let header = encode_header(record_type, instance_id, epoch, sequence, length);
     let mut output = [0u8; 65581];
     let end = put_record(header, payload, &mut output, 0).unwrap_or(0);
-    in_pieces(rt, output.get(..end).unwrap_or(&output), n)
+    in_pieces(rt, &what, output.get(..end).unwrap_or(&output), n)
 }
 
 // Pieces, a line for each.
