@@ -1,22 +1,25 @@
 // Worked byte strings of the plain layer, a line for each call: what was called, and what came.
 #![tactic(auto)]
 
-mod answer;
 mod headers;
 mod pairs;
 mod records;
 
 use std::io;
+use wire::Refusal;
+use wire::errors::Error;
 
 fn main(rt: HostRuntime) -> io::Result<()> {
     records::reset(&rt)?;
-    headers::places(&rt)?;
-    headers::types(&rt)?;
-    records::lengths(&rt)?;
+    headers::values(&rt)?;
     records::positions(&rt)?;
     records::limits(&rt)?;
     headers::wrong(&rt)?;
-    headers::lengths(&rt)?;
     pairs::values(&rt)?;
     pairs::lengths(&rt)
+}
+
+// The end of a refused call's line: the number. The plain layer gives a refusal no figures.
+fn refused(rt: &impl Print, error: Error) -> io::Result<()> {
+    println!(rt; "refusal {}", Refusal::from(error).number)
 }

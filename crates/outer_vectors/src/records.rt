@@ -1,70 +1,66 @@
 // encode_outer: the bytes it writes, and refusals 22 and 24.
-use crate::answer::Answer;
 use crate::headers::decode;
+use crate::refused;
 use outer::encode_outer;
 use print::Hex;
-use std::{fmt, io};
+use std::io;
 use wire::errors::Error;
 use wire::{Epoch, Sequence};
 
-// The position after a record.
-#[derive(Clone, Copy)]
-struct Next(usize);
-
-impl fmt::Display for Next {
-    fn fmt<W: fmt::Write>(&self, f: &mut fmt::Formatter<W>) -> fmt::Result {
-        write!(f, "next {}", self.0)
+// The end of an encoder's line: the position after the record.
+fn written(rt: &impl Print, answer: Result<usize, Error>) -> io::Result<()> {
+    match answer {
+        Ok(next) => println!(rt; "next {next}"),
+        Err(error) => refused(rt, error),
     }
-}
-
-// What the encoder answered.
-fn written(answer: Result<usize, Error>) -> Answer<Next> {
-    Answer(answer.map(Next))
 }
 
 // M1: a RESET without payload, there and back.
 pub fn reset(rt: &impl Print) -> io::Result<()> {
     let mut output = [0xAAu8; 44];
     let answer = encode_outer(3, [0x11u8; 16], Epoch(7), Sequence(0), b"", &mut output, 0);
-    println!(rt;
-        "encode_outer type 3 epoch 7 sequence 0: {} {}",
-        Hex(output),
-        written(answer)
-    )?;
+    print!(rt; "encode_outer type 3 epoch 7 sequence 0: {} ", Hex(&output))?;
+    written(rt, answer)?;
     decode(rt, output)
 }
 
 // A DATA of epoch 7 and sequence 1, at a position of an output.
 fn encode(rt: &impl Print, payload: &[u8], output: &mut [u8], at: usize) -> io::Result<()> {
-    let size = output.len();
-    let answer = encode_outer(5, [0x11u8; 16], Epoch(7), Sequence(1), payload, output, at);
-    println!(rt;
-        "encode_outer payload {} output {size} at {at}: {}",
+    print!(rt;
+        "encode_outer payload {} output {} at {at}: ",
         payload.len(),
-        written(answer)
-    )
+        output.len()
+    )?;
+    let answer = encode_outer(5, [0x11u8; 16], Epoch(7), Sequence(1), payload, output, at);
+    written(rt, answer)
 }
 
 // The whole output before and after a record of 47 bytes, a DATA of three.
 fn shown(rt: &impl Print, output: &mut [u8], at: usize) -> io::Result<()> {
-    println!(rt; "before {}", Hex(&*output))?;
+    println!(rt; "before {}", Hex(output))?;
     encode(rt, b"abc", output, at)?;
-    println!(rt; "after  {}", Hex(&*output))
+    println!(rt; "after  {}", Hex(output))
 }
 
-// In an output of 51 bytes: within it, the last position that fits, one more, the end, one past the
-// end, the largest number.
+// In outputs of 47 bytes and of one less. Then in one of 51 bytes: within it, the last position that
+// fits, one more, the end, one past the end, the largest number.
 pub fn positions(rt: &impl Print) -> io::Result<()> {
-    for at in [2, 4, 5, 51, 52, usize::MAX] {
-        shown(rt, &mut [0xAAu8; 51], at)?;
+    for (size, at) in [
+        (47, 0),
+        (46, 0),
+        (51, 2),
+        (51, 4),
+        (51, 5),
+        (51, 51),
+        (51, 52),
+        (51, usize::MAX),
+    ] {
+        let mut output = [0xAAu8; 51];
+        if let Some(output) = output.get_mut(..size) {
+            shown(rt, output, at)?;
+        }
     }
     Ok(())
-}
-
-// Outputs that are exactly long enough, and one byte short.
-pub fn lengths(rt: &impl Print) -> io::Result<()> {
-    shown(rt, &mut [0xAAu8; 47], 0)?;
-    shown(rt, &mut [0xAAu8; 46], 0)
 }
 
 // A payload at position 2 of 65,584, and the first and last four bytes of the output. A payload of

@@ -1,22 +1,22 @@
-// What both programs of worked vectors print: bytes in hexadecimal, and a record's fields.
+// What the programs of worked vectors print: bytes in hexadecimal, a record's fields, a case, a refusal.
 #![tactic(auto)]
 
 ghost use Rattle.std.specs.Prelude.{Some};
-ghost use Rattle.print.specs.Text.{hex, fields};
+ghost use Rattle.print.specs.Text.{hex, fields, case, refused};
 
 use outer::OuterHeader;
-use std::convert::AsSlice;
 use std::fmt;
+use wire::Refusal;
 
 // Bytes in upper-case hexadecimal, two digits for each.
 #[derive(Clone, Copy)]
-pub struct Hex<T>(pub T);
+pub struct Hex<'a>(pub &'a [u8]);
 
-impl<T: AsSlice<u8>> fmt::Display for Hex<T> {
-    ghost output = { λ bytes. Some (hex (T.items bytes.0)) };
+impl<'a> fmt::Display for Hex<'a> {
+    ghost output = { λ bytes. Some (hex bytes.0.now) };
 
     fn fmt<W: fmt::Write>(&self, f: &mut fmt::Formatter<W>) -> fmt::Result {
-        for byte in self.0.as_slice() {
+        for &byte in self.0 {
             write!(f, "{byte:02X}")?;
         }
         Ok(())
@@ -36,10 +36,41 @@ impl fmt::Display for Fields {
             f,
             "type {} instance {} epoch {} sequence {} length {}",
             header.record_type,
-            Hex(header.instance_id),
+            Hex(&header.instance_id),
             header.epoch.0,
             header.sequence.0,
             header.length
         )
+    }
+}
+
+// A record to try: its fields, and a payload of four bytes.
+#[derive(Clone, Copy)]
+pub struct Case<'a> {
+    pub header: OuterHeader,
+    pub payload: &'a [u8],
+}
+
+impl<'a> fmt::Display for Case<'a> {
+    ghost output = { λ shown. Some (case shown.header shown.payload.now) };
+
+    fn fmt<W: fmt::Write>(&self, f: &mut fmt::Formatter<W>) -> fmt::Result {
+        write!(f, "{}", Fields(self.header))?;
+        if self.payload.len() == 4 {
+            write!(f, " payload {}", Hex(self.payload))?;
+        }
+        Ok(())
+    }
+}
+
+// A refusal's number and its first two figures.
+#[derive(Clone, Copy)]
+pub struct Refused(pub Refusal);
+
+impl fmt::Display for Refused {
+    ghost output = { λ shown. Some (refused shown.0) };
+
+    fn fmt<W: fmt::Write>(&self, f: &mut fmt::Formatter<W>) -> fmt::Result {
+        write!(f, "refusal {} a {} b {}", self.0.number, self.0.a, self.0.b)
     }
 }

@@ -1,20 +1,14 @@
-// Worked records, a line for each call or stream: what was called, and what came.
+// Worked records through the encoder, a line for each: the record, and what came.
 #![tactic(auto)]
 
-mod answers;
-mod headers;
-mod lengths;
+mod cases;
 mod records;
-mod streams;
-mod values;
 
 use std::io;
 
 fn main(rt: HostRuntime) -> io::Result<()> {
-    lengths::every_type(&rt)?;
-    values::every_value(&rt)?;
-    headers::wrong(&rt)?;
-    headers::identities(&rt)?;
-    streams::all_ones(&rt)?;
-    streams::two_records(&rt)
+    cases::lengths(&rt)?;
+    cases::values(&rt)?;
+    cases::identities(&rt)?;
+    records::two(&rt)
 }

@@ -1,0 +1,17 @@
+// Worked bytes in pieces through a parser, a line for each stream: what was pushed, and what came.
+#![tactic(auto)]
+
+mod answers;
+mod cases;
+mod streams;
+
+use std::io;
+
+fn main(rt: HostRuntime) -> io::Result<()> {
+    cases::lengths(&rt)?;
+    cases::values(&rt)?;
+    cases::headers(&rt)?;
+    cases::identities(&rt)?;
+    streams::all_ones(&rt)?;
+    streams::two_records(&rt)
+}
