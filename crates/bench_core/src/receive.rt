@@ -43,6 +43,8 @@ impl Run {
 
 // Receives the stream, cut into pieces of so many bytes, and gives the sums over the payloads; 0
 // where a piece is refused.
+// Internal: a loop to be timed. Of the lent bytes it states the length alone; `make bench` holds its
+// answers to the Rust's.
 pub fn nvxs_receive(stream: &[u8], piece: usize, whole: bool, stage: &mut [u8]) -> u64
     ensures { length stage.new ≡ length stage.old }
 {

@@ -6,6 +6,8 @@ use outer::OUTER_MAX_PAYLOAD;
 
 // Sends the data in records of so many bytes, one after another in the output, and gives the
 // position after the last; 0 where one is refused.
+// Internal: a loop to be timed. Of the lent bytes it states the length alone; `make bench` holds its
+// answers to the Rust's.
 pub fn nvxs_send(data: &[u8], size: usize, output: &mut [u8]) -> usize
     ensures { length output.new ≡ length output.old }
 {

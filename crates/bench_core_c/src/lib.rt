@@ -7,6 +7,8 @@ use bench_core::{receive, send};
 
 // Receives the stream, cut into pieces of so many bytes, and gives the sums over the payloads; 0
 // where a piece is refused.
+// Internal: a loop to be timed. Of the lent bytes it states the length alone; `make bench` holds its
+// answers to the Rust's.
 #[unsafe(no_mangle)]
 pub extern "C" fn nvxs_receive(stream: &[u8], piece: usize, whole: bool, stage: &mut [u8]) -> u64
     ensures { length stage.new ≡ length stage.old }
@@ -16,6 +18,8 @@ pub extern "C" fn nvxs_receive(stream: &[u8], piece: usize, whole: bool, stage: 
 
 // Sends the data in records of so many bytes, one after another in the output, and gives the
 // position after the last; 0 where one is refused.
+// Internal: a loop to be timed. Of the lent bytes it states the length alone; `make bench` holds its
+// answers to the Rust's.
 #[unsafe(no_mangle)]
 pub extern "C" fn nvxs_send(data: &[u8], size: usize, output: &mut [u8]) -> usize
     ensures { length output.new ≡ length output.old }

@@ -104,6 +104,8 @@ impl Link {
 
 // Sends a message there and back so many times, and gives the sums over the echoes; 0 where one is
 // refused.
+// Internal: a loop to be timed. Of the lent bytes it states the length alone; `make bench` holds its
+// answers to the Rust's.
 pub fn nvxs_echo(
     message: &[u8],
     times: u32,

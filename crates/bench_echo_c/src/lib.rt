@@ -6,6 +6,8 @@ ghost use Rattle.std.specs.Prelude.{◌≡◌, length};
 use bench_echo::echo;
 
 // Sends a message there and back so many times, and gives the sums over the echoes.
+// Internal: a loop to be timed. Of the lent bytes it states the length alone; `make bench` holds its
+// answers to the Rust's.
 #[unsafe(no_mangle)]
 pub extern "C" fn nvxs_echo(
     message: &[u8],
