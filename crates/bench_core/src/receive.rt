@@ -6,10 +6,10 @@ use crate::sums::Sums;
 use guest::{GuestEvent, GuestSession, payload};
 
 // A guest, and the sums over what it handed out.
-#[derive(Drop)]
-struct Run {
-    guest: GuestSession,
-    sums: Sums,
+#[derive(Clone, Copy)]
+pub struct Run {
+    pub guest: GuestSession,
+    pub sums: Sums,
 }
 
 impl Run {

@@ -3,7 +3,7 @@
 // Sums over numbers: plain, and of the plain ones, so that the order counts.
 #[derive(Clone, Copy, Default)]
 pub struct Sums {
-    plain: u64,
+    pub plain: u64,
     pub weighted: u64,
 }
 

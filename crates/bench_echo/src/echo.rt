@@ -7,18 +7,19 @@ use bench_core::start::active_guest;
 use bench_core::sums::Sums;
 use guest::{GuestEvent, GuestSession};
 use host::{HostEvent, HostSession};
-use parser::{Complete, RecordParser, push};
+use parser::{Complete, Progress, RecordParser, push};
 use record::codec::encode_record;
 use record::types::RecordType;
+use session::Received;
 use wire::Sequence;
 
 // Both ends and the relay between them, and the sums over the echoes.
-#[derive(Drop)]
-struct Link {
-    host: HostSession,
-    guest: GuestSession,
-    parser: RecordParser,
-    sums: Sums,
+#[derive(Clone, Copy)]
+pub struct Link {
+    pub host: HostSession,
+    pub guest: GuestSession,
+    pub parser: RecordParser,
+    pub sums: Sums,
 }
 
 impl Link {
@@ -32,60 +33,76 @@ impl Link {
         }
     }
 
-    // The guest receives a message, sends it back and credits it, and where its answers end.
-    fn answer(&mut self, wire: &[u8], stage: &mut [u8], reply: &mut [u8]) -> Option<usize> {
+    // The guest receives a message, sends it back and credits it, and where its answers end: 0 where
+    // the credit is refused. A refused step goes on with no bytes.
+    fn answer(&mut self, wire: &[u8], stage: &mut [u8], reply: &mut [u8]) -> usize {
         let received = guest::receive(self.guest, wire, stage);
-        let Some(GuestEvent::Data { place, length }) = received.answer.ok()?.event else {
-            return None;
+        let bytes = match received.answer {
+            Ok(
+                Received {
+                    event: Some(GuestEvent::Data { place, length }),
+                    ..
+                },
+            ) => guest::payload(wire, stage, place, length),
+            _ => &[],
         };
-        let bytes = guest::payload(wire, stage, place, length);
         let sent = guest::send(received.session, bytes, reply, 0);
-        let next = sent.answer.ok()?.next;
-        let amount = u32::try_from(bytes.len()).ok()?;
+        let next = sent.answer.map_or(0, |sent| sent.next);
+        let amount = u32::try_from(bytes.len()).unwrap_or(0);
         let credited = guest::credit(sent.session, amount, reply, next);
-        Some(credited.store(&mut self.guest).ok()?.next)
+        credited
+            .store(&mut self.guest)
+            .map_or(0, |credited| credited.next)
     }
 
     // The relay reads the guest's DATA, writes it with another sequence and reads the CREDIT, and
-    // where its record ends.
-    fn relay(
-        &mut self,
-        sequence: u64,
-        reply: &[u8],
-        stage: &mut [u8],
-        wire: &mut [u8],
-    ) -> Option<usize> {
+    // where its record ends: 0 where there is none.
+    fn relay(&mut self, sequence: u64, reply: &[u8], stage: &mut [u8], wire: &mut [u8]) -> usize {
         let pushed = push::push(self.parser, reply, stage);
-        let data = pushed.answer.ok()?;
-        let Complete { record, place } = data.complete?;
-        let bytes = parser::payload(reply, stage, place, record.length);
-        let written = encode_record(
-            RecordType::Data,
-            record.instance_id,
-            record.epoch,
-            Sequence(sequence),
-            bytes,
-            wire,
-            0,
-        );
-        let rest = reply.get(data.consumed..)?;
+        let (consumed, next) = match pushed.answer {
+            Ok(
+                Progress {
+                    consumed,
+                    complete: Some(Complete { record, place }),
+                },
+            ) => {
+                let bytes = parser::payload(reply, stage, place, record.length);
+                let written = encode_record(
+                    RecordType::Data,
+                    record.instance_id,
+                    record.epoch,
+                    Sequence(sequence),
+                    bytes,
+                    wire,
+                    0,
+                );
+                (consumed, written.unwrap_or(0))
+            }
+            Ok(progress) => (progress.consumed, 0),
+            Err(_) => (0, 0),
+        };
+        let rest = reply.get(consumed..).unwrap_or_default();
         self.parser = push::push(pushed.parser, rest, stage).parser;
-        written.ok()
+        next
     }
 
     // The host receives the echo.
-    fn take(&mut self, wire: &[u8], whole: bool, stage: &mut [u8]) -> Option<()> {
+    fn take(&mut self, wire: &[u8], whole: bool, stage: &mut [u8]) {
         let received = host::receive(self.host, wire, stage).store(&mut self.host);
-        let Some(HostEvent::Data { place, length }) = received.ok()?.event else {
-            return None;
+        let echo = match received {
+            Ok(
+                Received {
+                    event: Some(HostEvent::Data { place, length }),
+                    ..
+                },
+            ) => host::payload(wire, stage, place, length),
+            _ => &[],
         };
-        let echo = host::payload(wire, stage, place, length);
         self.sums.add_payload(echo, whole);
-        Some(())
     }
 
     // One message there and back, with its sequence: the host sends it, the guest answers, the relay
-    // hands the answer on, and the host receives it. None where one is refused.
+    // hands the answer on, and the host receives it.
     fn turn(
         &mut self,
         sequence: u64,
@@ -94,16 +111,17 @@ impl Link {
         stage: &mut [u8],
         wire: &mut [u8],
         reply: &mut [u8],
-    ) -> Option<()> {
+    ) {
         let sent = host::send(self.host, message, wire, 0).store(&mut self.host);
-        let end = self.answer(wire.get(..sent.ok()?.next)?, stage, reply)?;
-        let end = self.relay(sequence, reply.get(..end)?, stage, wire)?;
-        self.take(wire.get(..end)?, whole, stage)
+        let end = sent.map_or(0, |sent| sent.next);
+        let end = self.answer(wire.get(..end).unwrap_or_default(), stage, reply);
+        let reply = reply.get(..end).unwrap_or_default();
+        let end = self.relay(sequence, reply, stage, wire);
+        self.take(wire.get(..end).unwrap_or_default(), whole, stage);
     }
 }
 
-// Sends a message there and back so many times, and gives the sums over the echoes; 0 where one is
-// refused.
+// Sends a message there and back so many times, and gives the sums over the echoes.
 // Internal: a loop to be timed. Of the lent bytes it states the length alone; `make bench` holds its
 // answers to the Rust's.
 pub fn nvxs_echo(
@@ -118,12 +136,7 @@ pub fn nvxs_echo(
 {
     let mut link = Link::new(stage);
     for sequence in 1..=times {
-        if link
-            .turn(sequence.into(), message, whole, stage, wire, reply)
-            .is_none()
-        {
-            return 0;
-        }
+        link.turn(sequence.into(), message, whole, stage, wire, reply);
     }
     link.sums.weighted
 }

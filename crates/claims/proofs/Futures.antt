@@ -99,7 +99,7 @@ module _ (p : RecordParser) (sound : sound_parser p ≡ true) where
 
   idle_number : eqb p.header_len 0 ≡ true → (latched (idle (latched p).number)).number ≡ (latched p).number
   unfolding settled
-  idle_number z = ap (λ (t : Bool). (latched (pick t (idle (latched p).number) p)).number) (sym z) ∙ settled_number p sound
+  idle_number z = ap (λ (t : Bool). (latched (pick t (idle (latched p).number) p)).number) (sym z) ∙ settled_number p
 
   future_settled : (offset o : ℕ) (stage l : List ℕ) → future (listing_of (settled p) offset o) stage l ≡ future (listing_of p offset o) stage l
   unfolding settled future
@@ -110,8 +110,8 @@ module _ (p : RecordParser) (sound : sound_parser p ≡ true) where
       ∙ ap (λ (x : List ℕ). pick (passes (latched p)) (lines_from offset o (take (limit - offset) (x ++ l))) (ending offset (latched p).number 0)) (sym (none_held z stage)))
       (λ _. refl)
 
-  pub settled_passes : passes (latched (settled p)) ≡ passes (latched p)
-  settled_passes = ap (λ (n : ℕ). eqb n 0) (settled_number p sound)
+pub settled_passes : (p : RecordParser) → passes (latched (settled p)) ≡ passes (latched p)
+settled_passes p = ap (λ (n : ℕ). eqb n 0) (settled_number p)
 
 module _ (p : RecordParser) (stage : List ℕ) (r : Ready p (held_in p stage)) where
   settled_size : length (settled p).header ≡ 44
@@ -123,7 +123,7 @@ module _ (p : RecordParser) (stage : List ℕ) (r : Ready p (held_in p stage)) w
   settled_count = picked (λ (x : RecordParser). length (held_in x stage) ≡ x.payload_len) (eqb p.header_len 0) (λ _. refl) (λ _. r.count)
 
   settled_ready : Ready (settled p) (held_in (settled p) stage)
-  settled_ready = record { sound = settled_sound p r.sound; clear = settled_passes p r.sound ∙ r.clear; size = settled_size; count = settled_count }
+  settled_ready = record { sound = settled_sound p r.sound; clear = settled_passes p ∙ r.clear; size = settled_size; count = settled_count }
 
 module _ (s : Listing) (stage piece output : List ℕ) (at : ℕ) (good : Good s stage) (on : passes (latched s.parser) ≡ true) (few : read_of s + length piece ≤ limit)
     (room : at + 126 ≤ length output) where
@@ -181,7 +181,7 @@ module _ (s : Listing) (stage piece output : List ℕ) (at : ℕ) (good : Good s
         text = [];
         puts = spaced_none output at (omega arith);
         good = record { sound = w.sound; room = r.room; ready = λ _. settled_ready a.parser after r.ready };
-        clear = λ _. settled_passes a.parser push_sound_lem ∙ t.ready.clear;
+        clear = λ _. settled_passes a.parser ∙ t.ready.clear;
         law = λ rest.
             future_settled a.parser push_sound_lem s.offset s.«open» after (drop a.consumed piece ++ rest)
             ∙ future_on (listing_of a.parser s.offset s.«open») after (drop a.consumed piece ++ rest) t.ready.clear
@@ -204,7 +204,7 @@ module _ (s : Listing) (stage piece output : List ℕ) (at : ℕ) (good : Good s
       (record {
         text = [];
         puts = spaced_none output at (omega arith);
-        good = record { sound = w.sound; room = omega (arith, staged.same_length, good.room); ready = λ q. true_not_false (sym q ∙ settled_passes a.parser push_sound_lem ∙ off) };
+        good = record { sound = w.sound; room = omega (arith, staged.same_length, good.room); ready = λ q. true_not_false (sym q ∙ settled_passes a.parser ∙ off) };
         clear = λ q. true_not_false (sym q ∙ ap (λ (y : Refusal). passes y) t.refusal ∙ t.numbered);
         law = λ rest.
             future_settled a.parser push_sound_lem s.offset s.«open» after (drop a.consumed piece ++ rest)
@@ -279,7 +279,7 @@ module _ (s : Listing) (stage piece output : List ℕ) (at : ℕ) (good : Good s
           text = line_of s a.«record» payload;
           puts = record { next = refl; within = omega arith; bytes = refl };
           good = record { sound = w.sound; room = r.room; ready = λ _. settled_ready a.parser after r.ready };
-          clear = λ _. settled_passes a.parser push_sound_lem ∙ (completed_ready t).clear;
+          clear = λ _. settled_passes a.parser ∙ (completed_ready t).clear;
           law = λ rest. next_lines rest (let f = facts next w.sound in omega (arith, f.read));
         })
 

@@ -2,7 +2,7 @@
 -- DATA that passes the rows. It leans on the cases of the push (`Rattle.parser.proofs.Cases`). Assumes nothing.
 use Prim.Native.Nat.{ℕ, ◌+◌, ◌-◌, ◌^◌, ◌≤◌, ◌<◌, min}
 use mathlib.Core.Path.{◌≡◌, refl, sym, ap, ◌∙◌}
-use mathlib.Core.Bool.{true}
+use mathlib.Core.Bool.{Bool, true, false}
 use mathlib.Core.List.{List}
 use native.Mathlib.Omega.{arith}
 use lib.ListN.{length, take, drop}
@@ -37,7 +37,7 @@ module _ (g : GuestSession) (n : ℕ) (f : flowing g n ≡ true) where
   unfolding flowing
   flow_whole = grind (arith, nat_tests)
 
-  flow_sound : sound_parser g.parser ≡ true
+  pub flow_sound : sound_parser g.parser ≡ true
   unfolding flowing clear
   flow_sound = grind (arith, nat_tests)
 
@@ -61,16 +61,16 @@ module _ (g : GuestSession) (piece stage : List ℕ) (f : flowing g (length stag
   goes = grind (arith, answer_told, flow_receives g (length stage) f)
 
 -- ---- DATA that the session takes
-module _ (g : GuestSession) (h : List ℕ) (t : takes_data g h ≡ true) (a : active_guest g ≡ true) where
+-- a test that failed
+pub takes_none : (b : Bool) → false ≡ true → b ≡ true
+takes_none b e = cc
+
+module _ (g : GuestSession) (h : List ℕ) (t : takes_data g h ≡ true) where
   pub takes_next : g.receive_sequence.0 < last_sequence
   unfolding takes_data first record_with
   takes_next = grind (arith, nat_tests)
 
-  pub takes_room : (n : ℕ) → n ≡ length_of h → g.outstanding + n < 2 ^ 32
-  unfolding takes_data first record_with active_guest
-  takes_room n e = grind (arith, nat_tests)
-
-  takes_passes : passes (header_checks h) ≡ true
+  pub takes_passes : passes (header_checks h) ≡ true
   unfolding takes_data
   takes_passes = grind (arith, nat_tests)
 
@@ -83,10 +83,15 @@ module _ (g : GuestSession) (h : List ℕ) (t : takes_data g h ≡ true) (a : ac
   unfolding takes_data finish payload_checks first
   finishes payload n place = simp takes_five
 
-  -- what a receive makes of it
-  takes_out : (n : ℕ) (place : Place) → (after_push g (told (completed h n place))).answer ≡ stepped (hands_out (length_of h) n place) h g
-  unfolding after_push accept accept_data takes_data record_with first active_guest
-  takes_out n place = grind (arith, nat_tests, type_code h takes_passes)
+  module _ (a : active_guest g ≡ true) where
+    pub takes_room : (n : ℕ) → n ≡ length_of h → g.outstanding + n < 2 ^ 32
+    unfolding takes_data first record_with active_guest
+    takes_room n e = grind (arith, nat_tests)
+
+    -- what a receive makes of it
+    takes_out : (n : ℕ) (place : Place) → (after_push g (told (completed h n place))).answer ≡ stepped (hands_out (length_of h) n place) h g
+    unfolding after_push accept accept_data takes_data record_with first active_guest
+    takes_out n place = grind (arith, nat_tests, type_code h takes_passes)
 
 -- ---- byte 44 has come
 module _ (g : GuestSession) (h rest stage : List ℕ) (size n from : ℕ) (t : takes_data g h ≡ true) (a : active_guest g ≡ true) (room : 65536 ≤ length stage)
@@ -100,21 +105,21 @@ module _ (g : GuestSession) (h rest stage : List ℕ) (size n from : ℕ) (t : t
   -- what follows is the payload step
   body : (v : Pushed) (left : List ℕ) → pushing.outcome v left ≡ pushing.outcome (push_body h k (take k stage) rest from).answer (body_stage h k rest stage)
       → after g (after44 h k rest from stage) ≡ outcome (after_push g (told v)).answer left
-  body v left e = simp (takes_passes g h t a) (ap (after g) (sym e))
+  body v left e = simp (takes_passes g h t) (ap (after g) (sym e))
 
   pub data_waits : k + n < size → after g (after44 h k rest from stage) ≡ outcome (stepped (waits_at 44 (k + n) (from + n)) h g) (copied stage k part)
   unfolding after_push
-  data_waits l = body _ _ (body_waits h size k rest from stage n (waiting h 44 (k + n) (from + n)) ez en _ room (takes_passes g h t a) l refl refl)
+  data_waits l = body _ _ (body_waits h size k rest from stage n (waiting h 44 (k + n) (from + n)) ez en _ room (takes_passes g h t) l refl refl)
 
   module _ (l : size ≤ k + n) (fits : k ≤ length_of h) where
     pub data_piece : k ≡ 0 → after g (after44 h k rest from stage) ≡ outcome (stepped (hands_out size (from + n) (Piece from)) h g) stage
     data_piece z =
-        rw ez (body _ _ (body_piece h size k rest from stage n (completed h (from + n) (Piece from)) ez en l fits z (finishes g h t a _ _ _))
+        rw ez (body _ _ (body_piece h size k rest from stage n (completed h (from + n) (Piece from)) ez en l fits z (finishes g h t _ _ _))
         ∙ ap (λ r. outcome r stage) (takes_out g h t a (from + n) (Piece from)))
 
     pub data_stage : (k ≡ 0 → ⊥) → after g (after44 h k rest from stage) ≡ outcome (stepped (hands_out size (from + n) Stage) h g) (copied stage k part)
     data_stage z =
-        rw ez (body _ _ (body_stage_lem h size k rest from stage n (completed h (from + n) Stage) ez en l fits _ room (takes_passes g h t a) z refl (finishes g h t a _ _ _))
+        rw ez (body _ _ (body_stage_lem h size k rest from stage n (completed h (from + n) Stage) ez en l fits _ room (takes_passes g h t) z refl (finishes g h t _ _ _))
         ∙ ap (λ r. outcome r (copied stage k part)) (takes_out g h t a (from + n) Stage))
 
 pub ruleset data_steps = (data_waits, data_piece, data_stage, takes_next, takes_room)

@@ -151,7 +151,7 @@ module _ (s : Listing) (piece stage output : List ℕ) (at : ℕ) (t : sound_lis
   same_held = settled_held a.parser k.sound
 
   same_refused : refused_bytes (latched (settled a.parser)).number ≡ refused_bytes (latched a.parser).number
-  same_refused = ap refused_bytes (settled_number a.parser k.sound)
+  same_refused = ap refused_bytes (settled_number a.parser)
 
   pub stepped : Stepped s (length piece) (step_of s piece stage output at).listed
   unfolding push_of pushed record_listed

@@ -5,24 +5,25 @@ use mathlib.Core.Path.{◌≡◌, refl, sym, ap, subst, ◌∙◌}
 use mathlib.Core.Bool.{Bool, true, ◌&&◌}
 use mathlib.Core.List.{List, [], ◌∷◌, ◌++◌, append_assoc}
 use native.Mathlib.Omega.{arith}
-use native.Mathlib.Decide.{dec_le, ℕ_discrete}
+use native.Mathlib.Decide.{dec_le}
 use lib.ListN.{length, take, drop, length-append, length-take, length-drop, drop_of_length-le}
 use lib.Seq.{take_all, drop_at, drop-drop}
-use lib.Dec.{eqb, leb, ltb, lit≤}
+use lib.Dec.{eqb, ltb, lit≤}
 use Rattle.std.specs.Prelude.{Option}
 use Rattle.std.specs.List.{list_all}
-use borrow.Author.Tests.{ltb-false, leb-true, ne_eqb, eqb-true, eqb-false}
+use borrow.Author.Tests.{ltb-false, ne_eqb, eqb-true, eqb-false}
 use Rattle.wire.specs.Bytes.{overlay}
 use Rattle.wire.specs.Refusals.{pick, refusal, refused, first, passes}
 use Rattle.wire.specs.Header.{type_of, length_of}
 use Rattle.wire.specs.declared.errors.RecordError.{RecordError}
-use Rattle.wire.proofs.Rows.{picked, and_left, and_right}
+use Rattle.wire.proofs.Rows.{picked, and_right}
 use Rattle.record.specs.Record.{all_zero, header_checks, payload_checks}
 use Rattle.parser.specs.Push.{latched, latch, counts_ok, error_ok, sound_parser, Push, waiting, finish, body_taken, push_body, head_taken, head_with, push_head, push_rows, push, buffered_of}
 use Rattle.parser.specs.declared.RecordParser.{RecordParser}
 use Rattle.parser.specs.declared.Place.{Place}
 use Rattle.parser.specs.declared.Place.TheVariants.{Piece, Stage}
 use Rattle.parser.proofs.Cases.{sound_count, sound_empty}
+use Rattle.parser.proofs.Latches.{refused_low}
 use Rattle.listing.specs.Settled.{idle, settled, number_only, is_settled}
 
 -- ---- header bytes that are 0 from an index on
@@ -64,23 +65,15 @@ bare n =
     (λ i. (refl, λ l. omega arith))))))))))
 
 module _ (p : RecordParser) where
+  -- a latched error is one of 1 to 9
+  error_low : (latched p).number ≤ 9
+  error_low = refused_low p.error
+
+  pub settled_number : (latched (settled p)).number ≡ (latched p).number
+  unfolding settled
+  settled_number = picked (λ (x : RecordParser). (latched x).number ≡ (latched p).number) (eqb p.header_len 0) (λ _. (bare (latched p).number).1 error_low) (λ _. refl)
+
   module _ (s : sound_parser p ≡ true) where
-    -- a latched error is one of 1 to 9
-    error_low : (latched p).number ≤ 9
-    unfolding sound_parser error_ok
-    error_low =
-        go (ℕ_discrete (latched p).number 0) (and_right (counts_ok p.header p.header_len p.payload_len) (error_ok (latched p).number p.header_len) s)
-      where
-        go : Dec ((latched p).number ≡ 0) → error_ok (latched p).number p.header_len ≡ true → (latched p).number ≤ 9
-        go (yes z) e = omega arith
-        go (no z) e =
-            let t : leb (latched p).number 9 && eqb p.header_len 0 ≡ true = simp (error_ok, ne_eqb (latched p).number 0 z) at e in
-            leb-true (latched p).number 9 (and_left (leb (latched p).number 9) (eqb p.header_len 0) t)
-
-    pub settled_number : (latched (settled p)).number ≡ (latched p).number
-    unfolding settled
-    settled_number = picked (λ (x : RecordParser). (latched x).number ≡ (latched p).number) (eqb p.header_len 0) (λ _. (bare (latched p).number).1 error_low) (λ _. refl)
-
     pub settled_sound : sound_parser (settled p) ≡ true
     unfolding settled sound_parser counts_ok
     settled_sound =

@@ -9,14 +9,19 @@ use std::io;
 use wire::Refusal;
 use wire::errors::Error;
 
-fn main(rt: HostRuntime) -> io::Result<()> {
-    records::reset(&rt)?;
-    headers::values(&rt)?;
-    records::positions(&rt)?;
-    records::limits(&rt)?;
-    headers::wrong(&rt)?;
-    pairs::values(&rt)?;
-    pairs::lengths(&rt)
+// A line that cannot be written is the last, and nothing is said of it.
+fn main(rt: HostRuntime) {
+    let _ = lines(&rt);
+}
+
+fn lines(rt: &impl Print) -> io::Result<()> {
+    records::reset(rt)?;
+    headers::values(rt)?;
+    records::positions(rt)?;
+    records::limits(rt)?;
+    headers::wrong(rt)?;
+    pairs::values(rt)?;
+    pairs::lengths(rt)
 }
 
 // The end of a refused call's line: the number. The plain layer gives a refusal no figures.

@@ -7,11 +7,16 @@ mod streams;
 
 use std::io;
 
-fn main(rt: HostRuntime) -> io::Result<()> {
-    cases::lengths(&rt)?;
-    cases::values(&rt)?;
-    cases::headers(&rt)?;
-    cases::identities(&rt)?;
-    streams::all_ones(&rt)?;
-    streams::two_records(&rt)
+// A line that cannot be written is the last, and nothing is said of it.
+fn main(rt: HostRuntime) {
+    let _ = lines(&rt);
+}
+
+fn lines(rt: &impl Print) -> io::Result<()> {
+    cases::lengths(rt)?;
+    cases::values(rt)?;
+    cases::headers(rt)?;
+    cases::identities(rt)?;
+    streams::all_ones(rt)?;
+    streams::two_records(rt)
 }

@@ -7,6 +7,8 @@ use std::alloc::{AllocError, Global};
 const ANSWERS: usize = 262144;
 // The most bytes that one answer takes.
 const ROOM: usize = 66048;
+// Where the first answer's operation stands.
+const OPERATION: usize = 4;
 
 // Runs the calls one after another, on fresh sessions and a memory of zeros. The answers stand one
 // after another.
@@ -24,15 +26,15 @@ fn run(alloc: Global, calls: &[u8], thin: bool) -> Result<Vec<u8>, AllocError> {
     Ok(answers)
 }
 
-// The answers of a block's calls. They are run a second time by the thin entries. Where these answer
-// otherwise the first answer's operation is 255, which no answer has.
+// The answers of a block's calls. They are run a second time by the thin entries, where any were
+// answered. Where these answer otherwise the first answer's operation is 255, which no answer has.
 pub fn block(alloc: Global, calls: &[u8]) -> Result<Vec<u8>, AllocError> {
     let mut answers = run(alloc, calls, false)?;
-    let thin = run(alloc, calls, true)?;
-    if answers != thin
-        && let Some(op) = answers.get_mut(4)
-    {
-        *op = 255;
+    if answers.len() <= OPERATION {
+        return Ok(answers);
+    }
+    if answers != run(alloc, calls, true)? {
+        answers[OPERATION] = 255;
     }
     Ok(answers)
 }

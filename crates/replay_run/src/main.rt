@@ -6,23 +6,24 @@
 mod blocks;
 
 use crate::blocks::block;
-use std::io::{ErrorKind, Read, Write};
+use std::io::{Read, Write};
 
 // Bytes of a block.
 const BLOCK: usize = 131072;
 
-// Every block of the input, as long as whole ones come. The program is proved to end, so its loop has
-// a bound, which no input reaches.
+// Every block of the input, as long as whole ones come: a read that fails is the end of the input, and
+// what cannot be written is left out. The program is proved to end, so its loop has a bound, which no
+// input reaches.
 fn main(rt: HostRuntime) -> std::io::Result<()> {
     let mut input = rt.stdin();
     let mut output = rt.stdout();
     let mut calls = [0u8; BLOCK];
     for _ in 0..u64::MAX {
-        match input.read_exact(&mut calls) {
-            Ok(()) => output.write_all(block(rt.alloc(), &calls)?.as_slice())?,
-            Err(e) if e.kind() == ErrorKind::UnexpectedEof => return Ok(()),
-            Err(e) => return Err(e),
+        if input.read_exact(&mut calls).is_err() {
+            return Ok(());
         }
+        let answers = block(rt.alloc(), &calls)?;
+        let _ = output.write_all(answers.as_slice());
     }
     Ok(())
 }
