@@ -6,6 +6,7 @@
 mod blocks;
 
 use crate::blocks::block;
+use std::alloc::AllocError;
 use std::io::{Read, Write};
 
 // Bytes of a block.
@@ -14,7 +15,7 @@ const BLOCK: usize = 131072;
 // Every block of the input, as long as whole ones come: a read that fails is the end of the input, and
 // what cannot be written is left out. The program is proved to end, so its loop has a bound, which no
 // input reaches.
-fn main(rt: HostRuntime) -> std::io::Result<()> {
+fn main(rt: HostRuntime) -> Result<(), AllocError> {
     let mut input = rt.stdin();
     let mut output = rt.stdout();
     let mut calls = [0u8; BLOCK];
