@@ -9,7 +9,7 @@ use std::io;
 use wire::Refusal;
 use wire::errors::Error;
 
-// A line that cannot be written is the last, and nothing is said of it.
+// What cannot be written is the last, and nothing is said of it.
 fn main(rt: HostRuntime) {
     let _ = lines(&rt);
 }

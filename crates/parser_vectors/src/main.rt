@@ -7,7 +7,7 @@ mod streams;
 
 use std::io;
 
-// A line that cannot be written is the last, and nothing is said of it.
+// What cannot be written is the last, and nothing is said of it.
 fn main(rt: HostRuntime) {
     let _ = lines(&rt);
 }
