@@ -5,13 +5,14 @@ mod headers;
 mod pairs;
 mod records;
 
+use print::GoesOn;
 use std::io;
 use wire::Refusal;
 use wire::errors::Error;
 
-// What cannot be written is the last, and nothing is said of it.
+// What cannot be written is left out, and nothing is said of it.
 fn main(rt: HostRuntime) {
-    let _ = lines(&rt);
+    let _ = lines(&GoesOn(&rt));
 }
 
 fn lines(rt: &impl Print) -> io::Result<()> {

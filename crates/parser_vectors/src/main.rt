@@ -5,11 +5,12 @@ mod answers;
 mod cases;
 mod streams;
 
+use print::GoesOn;
 use std::io;
 
-// What cannot be written is the last, and nothing is said of it.
+// What cannot be written is left out, and nothing is said of it.
 fn main(rt: HostRuntime) {
-    let _ = lines(&rt);
+    let _ = lines(&GoesOn(&rt));
 }
 
 fn lines(rt: &impl Print) -> io::Result<()> {

@@ -1,11 +1,13 @@
-// What the programs of worked vectors print: bytes in hexadecimal, a record's fields, a case, a refusal.
+// What the programs of worked vectors print: bytes in hexadecimal, a record's fields, a case, a refusal; and how they
+// print.
 #![tactic(auto)]
 
 ghost use Rattle.std.specs.Prelude.{Some};
 ghost use Rattle.print.specs.Text.{hex, fields, case, refused};
 
 use outer::OuterHeader;
-use std::fmt;
+use std::fmt::{self, Display};
+use std::io;
 use wire::Refusal;
 
 // Bytes in upper-case hexadecimal, two digits for each.
@@ -72,5 +74,26 @@ impl fmt::Display for Refused {
 
     fn fmt<W: fmt::Write>(&self, f: &mut fmt::Formatter<W>) -> fmt::Result {
         write!(f, "refusal {} a {} b {}", self.0.number, self.0.a, self.0.b)
+    }
+}
+
+// Prints, and goes on where something cannot be written.
+#[derive(Clone, Copy)]
+pub struct GoesOn<'a, P>(pub &'a P);
+
+impl<'a, P: Print> Print for GoesOn<'a, P> {
+    fn print<D: Display + Drop>(&self, value: D) -> io::Result<()> {
+        let _ = self.0.print(value);
+        Ok(())
+    }
+
+    fn println<D: Display + Drop>(&self, value: D) -> io::Result<()> {
+        let _ = self.0.println(value);
+        Ok(())
+    }
+
+    fn write_all(&self, bytes: &[u8]) -> io::Result<()> {
+        let _ = self.0.write_all(bytes);
+        Ok(())
     }
 }
