@@ -1,14 +1,20 @@
 // What a call answers, and its bytes (tests/differential/FORMAT.md).
 use crate::bytes::{Bytes, count4, number_of};
 use crate::frames::{AREA, Frame};
+use arrayvec::{ArrayVec, CapacityError};
 use guest::GuestSession;
 use host::HostSession;
 use parser::{Place, RecordParser, payload};
 use session::Identity;
-use std::alloc::AllocError;
 use wire::Refusal;
 use wire::errors::Error;
 use wire::parts::part;
+
+// The most bytes that the answers of a block take.
+pub const ANSWERS: usize = 262144;
+
+// Answers, one after another.
+pub type Answers = ArrayVec<u8, ANSWERS>;
 
 // Bytes of an answer's head.
 const HEAD: u32 = 128;
@@ -67,7 +73,7 @@ impl State {
 }
 
 impl Bytes for State {
-    fn append(self, out: &mut Vec<u8>) -> Result<(), AllocError> {
+    fn append(self, out: &mut Answers) -> Result<(), CapacityError> {
         match self {
             State::Nothing => Ok(()),
             State::Guest(guest) => guest.append(out),
@@ -98,7 +104,12 @@ pub struct Answer {
 impl Answer {
     // Appends the answer's bytes: head, payload, written bytes, state.
     // Internal: serves the comparison with the Rust, which states nothing of it.
-    pub fn append(self, f: Frame<'_>, memory: &[u8], out: &mut Vec<u8>) -> Result<(), AllocError> {
+    pub fn append(
+        self,
+        f: Frame<'_>,
+        memory: &[u8],
+        out: &mut Answers,
+    ) -> Result<(), CapacityError> {
         let payload = self.payload.slice(f.input, memory);
         let written = self.written.slice(f.input, memory);
         let payload_len = count4(payload.len());
@@ -118,7 +129,7 @@ impl Answer {
     }
 
     // The head's bytes 5 to 103.
-    fn append_event(self, out: &mut Vec<u8>) -> Result<(), AllocError> {
+    fn append_event(self, out: &mut Answers) -> Result<(), CapacityError> {
         self.event.append(out)?;
         place_number(self.place).append(out)?;
         number_of(self.refusal).append(out)?;
@@ -129,7 +140,7 @@ impl Answer {
     }
 
     // The head's bytes 112 to 127.
-    fn append_values(self, out: &mut Vec<u8>) -> Result<(), AllocError> {
+    fn append_values(self, out: &mut Answers) -> Result<(), CapacityError> {
         u8::from(self.window.is_some()).append(out)?;
         u8::from(self.credit.is_some()).append(out)?;
         u8::from(self.error_code.is_some()).append(out)?;

@@ -1,47 +1,48 @@
 // The bytes of what an answer has (tests/differential/FORMAT.md), appended one after another.
+use crate::answer::Answers;
+use arrayvec::CapacityError;
 use guest::GuestSession;
 use host::HostSession;
 use parser::RecordParser;
 use session::{Identity, held};
-use std::alloc::AllocError;
 use wire::{Refusal, Sequence};
 
 pub(crate) trait Bytes {
-    fn append(self, out: &mut Vec<u8>) -> Result<(), AllocError>;
+    fn append(self, out: &mut Answers) -> Result<(), CapacityError>;
 }
 
 impl<const N: usize> Bytes for [u8; N] {
-    fn append(self, out: &mut Vec<u8>) -> Result<(), AllocError> {
-        out.extend_from_slice(&self)
+    fn append(self, out: &mut Answers) -> Result<(), CapacityError> {
+        out.try_extend_from_slice(&self)
     }
 }
 
 impl Bytes for &[u8] {
-    fn append(self, out: &mut Vec<u8>) -> Result<(), AllocError> {
-        out.extend_from_slice(self)
+    fn append(self, out: &mut Answers) -> Result<(), CapacityError> {
+        out.try_extend_from_slice(self)
     }
 }
 
 impl Bytes for u8 {
-    fn append(self, out: &mut Vec<u8>) -> Result<(), AllocError> {
+    fn append(self, out: &mut Answers) -> Result<(), CapacityError> {
         [self].append(out)
     }
 }
 
 impl Bytes for u32 {
-    fn append(self, out: &mut Vec<u8>) -> Result<(), AllocError> {
+    fn append(self, out: &mut Answers) -> Result<(), CapacityError> {
         self.to_le_bytes().append(out)
     }
 }
 
 impl Bytes for u64 {
-    fn append(self, out: &mut Vec<u8>) -> Result<(), AllocError> {
+    fn append(self, out: &mut Answers) -> Result<(), CapacityError> {
         self.to_le_bytes().append(out)
     }
 }
 
 impl Bytes for Identity {
-    fn append(self, out: &mut Vec<u8>) -> Result<(), AllocError> {
+    fn append(self, out: &mut Answers) -> Result<(), CapacityError> {
         self.instance_id.append(out)?;
         self.epoch.0.append(out)
     }
@@ -49,14 +50,14 @@ impl Bytes for Identity {
 
 // Zeros where there is none.
 impl Bytes for Option<Identity> {
-    fn append(self, out: &mut Vec<u8>) -> Result<(), AllocError> {
+    fn append(self, out: &mut Answers) -> Result<(), CapacityError> {
         held(self).append(out)
     }
 }
 
 // A refusal's figures and fields, without its number; zeros where there is none.
 impl Bytes for Option<Refusal> {
-    fn append(self, out: &mut Vec<u8>) -> Result<(), AllocError> {
+    fn append(self, out: &mut Answers) -> Result<(), CapacityError> {
         let refusal = self.unwrap_or(Refusal::none());
         refusal.a.append(out)?;
         refusal.b.append(out)?;
@@ -67,7 +68,7 @@ impl Bytes for Option<Refusal> {
 }
 
 impl Bytes for RecordParser {
-    fn append(self, out: &mut Vec<u8>) -> Result<(), AllocError> {
+    fn append(self, out: &mut Answers) -> Result<(), CapacityError> {
         let error = self.error.map(Refusal::from);
         self.header.append(out)?;
         count4(self.header_len).append(out)?;
@@ -89,7 +90,7 @@ struct Common {
 }
 
 impl Bytes for Common {
-    fn append(self, out: &mut Vec<u8>) -> Result<(), AllocError> {
+    fn append(self, out: &mut Answers) -> Result<(), CapacityError> {
         u64::from(self.state).append(out)?;
         self.parser.append(out)?;
         u64::from(self.identity.is_some()).append(out)?;
@@ -101,7 +102,7 @@ impl Bytes for Common {
 
 // A guest's fields, and then its own two.
 impl Bytes for GuestSession {
-    fn append(self, out: &mut Vec<u8>) -> Result<(), AllocError> {
+    fn append(self, out: &mut Answers) -> Result<(), CapacityError> {
         let common = Common {
             state: self.state.number(),
             parser: self.parser,
@@ -117,7 +118,7 @@ impl Bytes for GuestSession {
 
 // A host's fields, and then zeros.
 impl Bytes for HostSession {
-    fn append(self, out: &mut Vec<u8>) -> Result<(), AllocError> {
+    fn append(self, out: &mut Answers) -> Result<(), CapacityError> {
         let common = Common {
             state: self.state.number(),
             parser: self.parser,

@@ -6,7 +6,7 @@
 mod blocks;
 
 use crate::blocks::block;
-use std::alloc::AllocError;
+use replay::answer::Answers;
 use std::io::{Read, Write};
 
 // Bytes of a block.
@@ -15,16 +15,16 @@ const BLOCK: usize = 131072;
 // Every block of the input, as long as whole ones come: a read that fails is the end of the input, and
 // what cannot be written is left out. The program is proved to end, so its loop has a bound, which no
 // input reaches.
-fn main(rt: HostRuntime) -> Result<(), AllocError> {
+fn main(rt: HostRuntime) {
     let mut input = rt.stdin();
     let mut output = rt.stdout();
     let mut calls = [0u8; BLOCK];
+    let mut answers = Answers::new();
     for _ in 0..u64::MAX {
         if input.read_exact(&mut calls).is_err() {
-            return Ok(());
+            return;
         }
-        let answers = block(rt.alloc(), &calls)?;
+        block(&calls, &mut answers);
         let _ = output.write_all(answers.as_slice());
     }
-    Ok(())
 }
